@@ -1,0 +1,17 @@
+pub mod Sums
+pub mod Service
+pub mod Urgent
+pub mod Window
+pub mod Starting
+pub mod Timely
+pub mod Choosing
+pub mod Building
+pub mod Totals
+pub mod Slack
+pub mod Offsets
+pub mod Promise
+pub mod Turns
+pub mod Together
+pub mod Examples
+pub mod Early
+pub mod Boards
