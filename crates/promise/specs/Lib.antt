@@ -1,0 +1,10 @@
+pub mod Meaning
+pub mod Choosing
+pub mod Admits
+pub mod Rules
+pub mod Plan
+pub mod Layout
+pub mod Kept
+pub mod Stored
+pub mod History
+pub mod Promise
