@@ -1,0 +1,4 @@
+pub mod Hex
+pub mod Replies
+pub mod Tasks
+pub mod After
