@@ -22,8 +22,8 @@ pub(crate) fn admit_line<J: SizingJudge, P: Placement>(
     board: &mut Board<J, P>,
     line: &[u8],
 ) -> Result<String, AllocError>
-    ensures after { plan board.new ≡ after_admit Rank-as-Rank.first (ranks board.old.rule) (J.Judge.accepts board.old.judge) (allows board.old.judge) (plan board.old) (admit_of (slice_index_or (fields line.now) 1 []) (slice_index_or (fields line.now) 2 []) (slice_index_or (fields line.now) 3 []) (slice_index_or (fields line.now) 4 [])) }
-    ensures reply { IfOk result (λ s. string_bytes s ≡ admit_text Rank-as-Rank.first (ranks board.old.rule) (J.Judge.accepts board.old.judge) (allows board.old.judge) (plan board.old) (admit_of (slice_index_or (fields line.now) 1 []) (slice_index_or (fields line.now) 2 []) (slice_index_or (fields line.now) 3 []) (slice_index_or (fields line.now) 4 []))) }
+    ensures after { plan board.new ≡ after_admit P.Rank.Rank.first (P.ranks board.old.rule) (J.Judge.accepts board.old.judge) (J.allows board.old.judge) (plan board.old) (admit_of (slice_index_or (fields line.now) 1 []) (slice_index_or (fields line.now) 2 []) (slice_index_or (fields line.now) 3 []) (slice_index_or (fields line.now) 4 [])) }
+    ensures reply { IfOk result (λ s. string_bytes s ≡ admit_text P.Rank.Rank.first (P.ranks board.old.rule) (J.Judge.accepts board.old.judge) (J.allows board.old.judge) (plan board.old) (admit_of (slice_index_or (fields line.now) 1 []) (slice_index_or (fields line.now) 2 []) (slice_index_or (fields line.now) 3 []) (slice_index_or (fields line.now) 4 []))) }
     ensures judge { board.new.judge ≡ board.old.judge }
     ensures rule { board.new.rule ≡ board.old.rule }
 {
@@ -43,8 +43,8 @@ fn admit<J: SizingJudge, P: Placement>(
     board: &mut Board<J, P>,
     request: AdmitRequest,
 ) -> Result<String, AllocError>
-    ensures after { plan board.new ≡ after (plan board.old) (admitted Rank-as-Rank.first (ranks board.old.rule) (J.Judge.accepts board.old.judge) (allows board.old.judge) (plan board.old) request.key request.budget request.deadline request.period) }
-    ensures reply { IfOk result (λ s. string_bytes s ≡ admitted_text (admitted Rank-as-Rank.first (ranks board.old.rule) (J.Judge.accepts board.old.judge) (allows board.old.judge) (plan board.old) request.key request.budget request.deadline request.period)) }
+    ensures after { plan board.new ≡ after (plan board.old) (admitted P.Rank.Rank.first (P.ranks board.old.rule) (J.Judge.accepts board.old.judge) (J.allows board.old.judge) (plan board.old) request.key request.budget request.deadline request.period) }
+    ensures reply { IfOk result (λ s. string_bytes s ≡ admitted_text (admitted P.Rank.Rank.first (P.ranks board.old.rule) (J.Judge.accepts board.old.judge) (J.allows board.old.judge) (plan board.old) request.key request.budget request.deadline request.period)) }
     ensures judge { board.new.judge ≡ board.old.judge }
     ensures rule { board.new.rule ≡ board.old.rule }
 {

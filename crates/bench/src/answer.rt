@@ -23,7 +23,7 @@ pub fn answer<J: SizingJudge, P: Placement>(
     board: &mut Board<J, P>,
     line: &[u8],
 ) -> Result<String, AllocError>
-    ensures answered { Answered Rank-as-Rank.first (ranks board.old.rule) (J.Judge.accepts board.old.judge) (allows board.old.judge) (fields line.now) (plan board.old) (task_of line.now) (plan board.new) result }
+    ensures answered { Answered P.Rank.Rank.first (P.ranks board.old.rule) (J.Judge.accepts board.old.judge) (J.allows board.old.judge) (fields line.now) (plan board.old) (task_of line.now) (plan board.new) result }
     ensures judge { board.new.judge ≡ board.old.judge }
     ensures rule { board.new.rule ≡ board.old.rule }
 {

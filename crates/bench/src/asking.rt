@@ -43,7 +43,7 @@ pub(crate) fn judge_line<J: Judge, P>(
     rows: usize,
 ) -> Result<String, AllocError>
     requires { rows ≤ 40 }
-    ensures { IfOk result (λ s. string_bytes s ≡ judge_text (accepts board.now.judge) (fields line.now) rows) }
+    ensures { IfOk result (λ s. string_bytes s ≡ judge_text (J.accepts board.now.judge) (fields line.now) rows) }
 {
     match check_numbers(line, 1, 1 + 3 * rows) {
         Err(fault) => reply::refused_line(heap, fault),
@@ -58,7 +58,7 @@ fn judge<J: Judge, P>(
     rows: usize,
 ) -> Result<String, AllocError>
     requires { rows ≤ 40 }
-    ensures { IfOk result (λ s. string_bytes s ≡ judged_text (accepts board.now.judge) (timings_at (fields line.now) 1 rows)) }
+    ensures { IfOk result (λ s. string_bytes s ≡ judged_text (J.accepts board.now.judge) (timings_at (fields line.now) 1 rows)) }
 {
     match read_timings(line, 1, rows) {
         Err(fault) => reply::refused_request(heap, fault),
@@ -73,7 +73,7 @@ pub(crate) fn allow_line<J: SizingJudge, P>(
     rows: usize,
 ) -> Result<String, AllocError>
     requires { rows ≤ 40 }
-    ensures { IfOk result (λ s. string_bytes s ≡ allow_text (allows board.now.judge) (fields line.now) rows) }
+    ensures { IfOk result (λ s. string_bytes s ≡ allow_text (J.allows board.now.judge) (fields line.now) rows) }
 {
     match check_numbers(line, 1, 3 + 3 * rows) {
         Err(fault) => reply::refused_line(heap, fault),
@@ -88,7 +88,7 @@ fn allow<J: SizingJudge, P>(
     rows: usize,
 ) -> Result<String, AllocError>
     requires { rows ≤ 40 }
-    ensures { IfOk result (λ s. string_bytes s ≡ allowed_text (allows board.now.judge) (number_at (fields line.now) 1) (number_at (fields line.now) 2) (timings_at (fields line.now) 3 rows)) }
+    ensures { IfOk result (λ s. string_bytes s ≡ allowed_text (J.allows board.now.judge) (number_at (fields line.now) 1) (number_at (fields line.now) 2) (timings_at (fields line.now) 3 rows)) }
 {
     match read_timings(line, 3, rows) {
         Err(fault) => reply::refused_request(heap, fault),

@@ -21,8 +21,8 @@ pub(crate) fn leave_line<J: Judge, P>(
     board: &mut Board<J, P>,
     key: &[u8],
 ) -> Result<String, AllocError>
-    ensures after { plan board.new ≡ after_leave (accepts board.old.judge) (plan board.old) (number_of key.now) }
-    ensures reply { IfOk result (λ s. string_bytes s ≡ leave_text (accepts board.old.judge) (plan board.old) (number_of key.now)) }
+    ensures after { plan board.new ≡ after_leave (J.accepts board.old.judge) (plan board.old) (number_of key.now) }
+    ensures reply { IfOk result (λ s. string_bytes s ≡ leave_text (J.accepts board.old.judge) (plan board.old) (number_of key.now)) }
     ensures judge { board.new.judge ≡ board.old.judge }
     ensures rule { board.new.rule ≡ board.old.rule }
 {
@@ -37,8 +37,8 @@ fn withdraw<J: Judge, P>(
     board: &mut Board<J, P>,
     key: u32,
 ) -> Result<String, AllocError>
-    ensures after { plan board.new ≡ (withdrawal (accepts board.old.judge) key (plan board.old)).1 }
-    ensures reply { IfOk result (λ s. string_bytes s ≡ withdrawn_text key (withdrawal (accepts board.old.judge) key (plan board.old)).1 (withdrawal (accepts board.old.judge) key (plan board.old)).0) }
+    ensures after { plan board.new ≡ (withdrawal (J.accepts board.old.judge) key (plan board.old)).1 }
+    ensures reply { IfOk result (λ s. string_bytes s ≡ withdrawn_text key (withdrawal (J.accepts board.old.judge) key (plan board.old)).1 (withdrawal (J.accepts board.old.judge) key (plan board.old)).0) }
     ensures judge { board.new.judge ≡ board.old.judge }
     ensures rule { board.new.rule ≡ board.old.rule }
 {

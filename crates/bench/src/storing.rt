@@ -21,7 +21,7 @@ pub(crate) fn load_line<J: Judge, P>(
     digits: &[u8],
 ) -> Result<String, AllocError>
     requires { length digits.now ≤ 12000 }
-    ensures loaded { LoadAnswered (accepts board.old.judge) digits.now (plan board.old) (plan board.new) result }
+    ensures loaded { LoadAnswered (J.accepts board.old.judge) digits.now (plan board.old) (plan board.new) result }
     ensures judge { board.new.judge ≡ board.old.judge }
     ensures rule { board.new.rule ≡ board.old.rule }
 {
@@ -37,7 +37,7 @@ fn load_image<J: Judge, P>(
     board: &mut Board<J, P>,
     image: &[u8],
 ) -> Result<String, AllocError>
-    ensures loaded { LoadsDigits true (accepts board.old.judge) image.now (plan board.old) (plan board.new) result }
+    ensures loaded { LoadsDigits true (J.accepts board.old.judge) image.now (plan board.old) (plan board.new) result }
     ensures judge { board.new.judge ≡ board.old.judge }
     ensures rule { board.new.rule ≡ board.old.rule }
 {

@@ -25,7 +25,7 @@ impl<J: SizingJudge, P: Placement> Board<J, P> {
         deadline: u32,
         period: u32,
     ) -> Result<Admission, RequestFault>
-        ensures answer { told result ≡ admitted Rank-as-Rank.first (ranks self.old.rule) (J.Judge.accepts self.old.judge) (allows self.old.judge) (plan self.old) key budget deadline period }
+        ensures answer { told result ≡ admitted P.Rank.Rank.first (P.ranks self.old.rule) (J.Judge.accepts self.old.judge) (J.allows self.old.judge) (plan self.old) key budget deadline period }
         ensures after { plan self.new ≡ after (plan self.old) (told result) }
         ensures judge { self.new.judge ≡ self.old.judge }
         ensures rule { self.new.rule ≡ self.old.rule }
@@ -40,7 +40,7 @@ impl<J: SizingJudge, P: Placement> Board<J, P> {
 
     // The rows to be made: one where some processor takes the newcomer whole, else those of a split.
     fn decide(&self, key: u16, newcomer: Timing) -> Option<Admission>
-        ensures rows { rows_found result ≡ decided Rank-as-Rank.first (ranks self.now.rule) (J.Judge.accepts self.now.judge) (allows self.now.judge) (plan self.now) key newcomer }
+        ensures rows { rows_found result ≡ decided P.Rank.Rank.first (P.ranks self.now.rule) (J.Judge.accepts self.now.judge) (J.allows self.now.judge) (plan self.now) key newcomer }
         ensures room { RoomFor (plan self.now) result }
     {
         match self.place(&[], newcomer) {

@@ -55,7 +55,7 @@ impl<J: Judge, P> Board<J, P> {
 impl<J: Judge, P: Placement> Board<J, P> {
     // The processor that the timing goes to.
     pub fn place(&self, cuts: &[Cut], timing: Timing) -> Option<u8>
-        ensures { result ≡ place Rank-as-Rank.first (P.Placement.ranks self.now.rule) (J.Judge.accepts self.now.judge) (plan self.now) cuts.now timing }
+        ensures { result ≡ place P.Rank.Rank.first (P.Placement.ranks self.now.rule) (J.Judge.accepts self.now.judge) (plan self.now) cuts.now timing }
     {
         let open = self.candidates(cuts, timing);
         match choose(&self.rule, open.as_slice()) {

@@ -17,7 +17,7 @@ use processor::few::Few;
 impl<J: SizingJudge, P: Placement> Board<J, P> {
     // Sets tails until the head finds a place. The head needs a processor of its own, so there are fewer tails than processors.
     pub fn split(&self, key: u16, newcomer: Timing) -> Option<Admission>
-        ensures { rows_found result ≡ split_up Rank-as-Rank.first (ranks self.now.rule) (J.Judge.accepts self.now.judge) (allows self.now.judge) (plan self.now) key newcomer }
+        ensures { rows_found result ≡ split_up P.Rank.Rank.first (P.ranks self.now.rule) (J.Judge.accepts self.now.judge) (J.allows self.now.judge) (plan self.now) key newcomer }
     {
         let mut cuts: Few<Cut, 8> = Few::new(Cut {
             processor: 0,

@@ -20,10 +20,10 @@ use processor::few::Few;
 impl<J: Judge, P> Board<J, P> {
     // Takes a reservation off the board, then gathers on each processor that held a row of it, in rising number.
     pub fn withdraw(&mut self, key: u32) -> Result<Gathered, NamingFault>
-        ensures answer { told result ≡ (withdrawal (accepts self.old.judge) key (plan self.old)).0 }
-        ensures after { plan self.new ≡ (withdrawal (accepts self.old.judge) key (plan self.old)).1 }
-        ensures rules { Withdraws (accepts self.old.judge) key (plan self.old) (told result) (plan self.new) }
-        ensures only { (answer : Result (List ℕ) NamingFault) (after : List (List Row)) → Withdraws (accepts self.old.judge) key (plan self.old) answer after → (answer ≡ told result) × (after ≡ plan self.new) }
+        ensures answer { told result ≡ (withdrawal (J.accepts self.old.judge) key (plan self.old)).0 }
+        ensures after { plan self.new ≡ (withdrawal (J.accepts self.old.judge) key (plan self.old)).1 }
+        ensures rules { Withdraws (J.accepts self.old.judge) key (plan self.old) (told result) (plan self.new) }
+        ensures only { (answer : Result (List ℕ) NamingFault) (after : List (List Row)) → Withdraws (J.accepts self.old.judge) key (plan self.old) answer after → (answer ≡ told result) × (after ≡ plan self.new) }
         ensures judge { self.new.judge ≡ self.old.judge }
         ensures rule { self.new.rule ≡ self.old.rule }
     {
@@ -43,8 +43,8 @@ impl<J: Judge, P> Board<J, P> {
     // Gathers on the processors that are to be visited. Each step sees the plan that the step before left.
     fn gather(&mut self, visited: &[bool]) -> Few<u16, 8>
         requires { length visited.now ≡ vec_len self.old.processors }
-        ensures keys { held result ≡ (gather_from (accepts self.old.judge) 0 visited.now (plan self.old)).0 }
-        ensures after { plan self.new ≡ (gather_from (accepts self.old.judge) 0 visited.now (plan self.old)).1 }
+        ensures keys { held result ≡ (gather_from (J.accepts self.old.judge) 0 visited.now (plan self.old)).0 }
+        ensures after { plan self.new ≡ (gather_from (J.accepts self.old.judge) 0 visited.now (plan self.old)).1 }
         ensures judge { self.new.judge ≡ self.old.judge }
         ensures rule { self.new.rule ≡ self.old.rule }
     {
@@ -59,8 +59,8 @@ impl<J: Judge, P> Board<J, P> {
     // Gathers on one processor: its candidate, if the judge accepts it whole there in place of its rows.
     fn gather_at(&mut self, place: usize) -> u16
         requires { place < vec_len self.old.processors }
-        ensures key { result ≡ (gather (accepts self.old.judge) place (plan self.old)).0 }
-        ensures after { plan self.new ≡ (gather (accepts self.old.judge) place (plan self.old)).1 }
+        ensures key { result ≡ (gather (J.accepts self.old.judge) place (plan self.old)).0 }
+        ensures after { plan self.new ≡ (gather (J.accepts self.old.judge) place (plan self.old)).1 }
         ensures count { vec_len self.new.processors ≡ vec_len self.old.processors }
         ensures judge { self.new.judge ≡ self.old.judge }
         ensures rule { self.new.rule ≡ self.old.rule }

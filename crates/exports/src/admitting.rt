@@ -32,7 +32,7 @@ pub extern "C" fn wadispoon_admit(
 }
 
 fn admit_all<J: SizingJudge, P: Placement>(board: &mut Board<J, P>, wanted: &[Wanted]) -> u64
-    ensures { result ≡ count_over (admitting Rank-as-Rank.first (ranks board.old.rule) (J.Judge.accepts board.old.judge) (allows board.old.judge)) (plan board.old) wanted.now }
+    ensures { result ≡ count_over (admitting P.Rank.Rank.first (P.ranks board.old.rule) (J.Judge.accepts board.old.judge) (J.allows board.old.judge)) (plan board.old) wanted.now }
 {
     let mut count = 0;
     for one in wanted {
@@ -43,9 +43,9 @@ fn admit_all<J: SizingJudge, P: Placement>(board: &mut Board<J, P>, wanted: &[Wa
 
 // 1 if it was admitted, 0 if it was refused.
 fn admit_one<J: SizingJudge, P: Placement>(board: &mut Board<J, P>, one: &Wanted) -> u64
-    ensures value { result ≡ (admitting Rank-as-Rank.first (ranks board.old.rule) (J.Judge.accepts board.old.judge) (allows board.old.judge) (plan board.old) one.now).0 }
+    ensures value { result ≡ (admitting P.Rank.Rank.first (P.ranks board.old.rule) (J.Judge.accepts board.old.judge) (J.allows board.old.judge) (plan board.old) one.now).0 }
     ensures bound { result ≤ 1 }
-    ensures after { plan board.new ≡ (admitting Rank-as-Rank.first (ranks board.old.rule) (J.Judge.accepts board.old.judge) (allows board.old.judge) (plan board.old) one.now).1 }
+    ensures after { plan board.new ≡ (admitting P.Rank.Rank.first (P.ranks board.old.rule) (J.Judge.accepts board.old.judge) (J.allows board.old.judge) (plan board.old) one.now).1 }
     ensures judge { board.new.judge ≡ board.old.judge }
     ensures rule { board.new.rule ≡ board.old.rule }
 {

@@ -30,7 +30,7 @@ pub extern "C" fn wadispoon_withdraw(
 }
 
 fn withdraw_all<J: Judge, P>(board: &mut Board<J, P>, keys: &[u32]) -> u64
-    ensures { result ≡ count_over (withdrawing (accepts board.old.judge)) (plan board.old) keys.now }
+    ensures { result ≡ count_over (withdrawing (J.accepts board.old.judge)) (plan board.old) keys.now }
 {
     let mut count = 0;
     for key in keys {
@@ -41,9 +41,9 @@ fn withdraw_all<J: Judge, P>(board: &mut Board<J, P>, keys: &[u32]) -> u64
 
 // 1 if it stood, 0 if it did not.
 fn withdraw_one<J: Judge, P>(board: &mut Board<J, P>, key: u32) -> u64
-    ensures value { result ≡ (withdrawing (accepts board.old.judge) (plan board.old) key).0 }
+    ensures value { result ≡ (withdrawing (J.accepts board.old.judge) (plan board.old) key).0 }
     ensures bound { result ≤ 1 }
-    ensures after { plan board.new ≡ (withdrawing (accepts board.old.judge) (plan board.old) key).1 }
+    ensures after { plan board.new ≡ (withdrawing (J.accepts board.old.judge) (plan board.old) key).1 }
     ensures judge { board.new.judge ≡ board.old.judge }
 {
     match board.withdraw(key) {

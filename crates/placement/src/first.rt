@@ -8,9 +8,9 @@ use crate::rank::Rank;
 use crate::rule::Placement;
 
 pub fn choose<P: Placement>(rule: &P, candidates: &[Candidate]) -> Option<Candidate>
-    ensures value { result ≡ choice P.Rank.Rank.first (ranks rule.now) candidates.now }
-    ensures first { Chosen P.Rank.Rank.first (ranks rule.now) candidates.now result }
-    ensures only { (c : Candidate) → First P.Rank.Rank.first (ranks rule.now) candidates.now c → result ≡ Some c }
+    ensures value { result ≡ choice P.Rank.Rank.first (P.ranks rule.now) candidates.now }
+    ensures first { Chosen P.Rank.Rank.first (P.ranks rule.now) candidates.now result }
+    ensures only { (c : Candidate) → First P.Rank.Rank.first (P.ranks rule.now) candidates.now c → result ≡ Some c }
 {
     if candidates.is_empty() {
         return None;
@@ -24,7 +24,7 @@ pub fn choose<P: Placement>(rule: &P, candidates: &[Candidate]) -> Option<Candid
 
 // Of two candidates the one whose rank comes first, and of equals the earlier.
 fn better<P: Placement>(rule: &P, earlier: Candidate, later: Candidate) -> Candidate
-    ensures { result ≡ better P.Rank.Rank.first (ranks rule.now) earlier later }
+    ensures { result ≡ better P.Rank.Rank.first (P.ranks rule.now) earlier later }
 {
     if rank_of(rule, &later).before(&rank_of(rule, &earlier)) {
         later
@@ -34,7 +34,7 @@ fn better<P: Placement>(rule: &P, earlier: Candidate, later: Candidate) -> Candi
 }
 
 fn rank_of<P: Placement>(rule: &P, candidate: &Candidate) -> P::Rank
-    ensures { result ≡ rank_of (ranks rule.now) candidate.now }
+    ensures { result ≡ rank_of (P.ranks rule.now) candidate.now }
 {
     rule.rank(candidate.processor, candidate.spare, candidate.rows)
 }

@@ -28,7 +28,7 @@ pub fn run<J: SizingJudge + Drop, P: Placement + Drop>(
     rule: P,
     calls: &[Call],
 ) -> Result<Outcome<J, P>, SetupError>
-    ensures { Ran (meant Rank-as-Rank.first (P.Placement.ranks rule) (J.Judge.accepts judge) (J.SizingJudge.allows judge)) processors judge rule calls.now result }
+    ensures { Ran (meant P.Rank.Rank.first (P.Placement.ranks rule) (J.Judge.accepts judge) (J.SizingJudge.allows judge)) processors judge rule calls.now result }
 {
     let mut outcome = begin(heap, processors, judge, rule, calls.len())?;
     for call in calls {
@@ -55,7 +55,7 @@ fn begin<J: Drop, P: Drop>(
 
 // Makes one call.
 pub fn make<J: SizingJudge, P: Placement>(board: &mut Board<J, P>, call: &Call) -> Answer
-    ensures derived { Derived (meant Rank-as-Rank.first (P.Placement.ranks board.old.rule) (J.Judge.accepts board.old.judge) (J.SizingJudge.allows board.old.judge)) (plan board.old) call.now result (plan board.new) }
+    ensures derived { Derived (meant P.Rank.Rank.first (P.Placement.ranks board.old.rule) (J.Judge.accepts board.old.judge) (J.SizingJudge.allows board.old.judge)) (plan board.old) call.now result (plan board.new) }
     ensures judge { board.new.judge ≡ board.old.judge }
     ensures rule { board.new.rule ≡ board.old.rule }
 {
@@ -78,8 +78,8 @@ fn admit<J: SizingJudge, P: Placement>(
     deadline: u32,
     period: u32,
 ) -> Answer
-    ensures answer { Tells (admitted Rank-as-Rank.first (P.Placement.ranks board.old.rule) (J.Judge.accepts board.old.judge) (J.SizingJudge.allows board.old.judge) (plan board.old) key budget deadline period) result }
-    ensures after { plan board.new ≡ after (plan board.old) (admitted Rank-as-Rank.first (P.Placement.ranks board.old.rule) (J.Judge.accepts board.old.judge) (J.SizingJudge.allows board.old.judge) (plan board.old) key budget deadline period) }
+    ensures answer { Tells (admitted P.Rank.Rank.first (P.Placement.ranks board.old.rule) (J.Judge.accepts board.old.judge) (J.SizingJudge.allows board.old.judge) (plan board.old) key budget deadline period) result }
+    ensures after { plan board.new ≡ after (plan board.old) (admitted P.Rank.Rank.first (P.Placement.ranks board.old.rule) (J.Judge.accepts board.old.judge) (J.SizingJudge.allows board.old.judge) (plan board.old) key budget deadline period) }
     ensures judge { board.new.judge ≡ board.old.judge }
     ensures rule { board.new.rule ≡ board.old.rule }
 {

@@ -21,8 +21,8 @@ pub fn answer<J: SizingJudge, P: Placement>(
     line: &[u8],
     reply: &mut [u8],
 ) -> Result<usize, LineFault>
-    ensures replied { Replied reply.old (reply_text Rank-as-Rank.first (ranks board.old.rule) (J.Judge.accepts board.old.judge) (allows board.old.judge) (plan board.old) (asked line.now)) reply.new result }
-    ensures after { plan board.new ≡ unless_small (length reply.old) (plan board.old) (plan_after Rank-as-Rank.first (ranks board.old.rule) (J.Judge.accepts board.old.judge) (allows board.old.judge) (plan board.old) (asked line.now)) }
+    ensures replied { Replied reply.old (reply_text P.Rank.Rank.first (P.ranks board.old.rule) (J.Judge.accepts board.old.judge) (J.allows board.old.judge) (plan board.old) (asked line.now)) reply.new result }
+    ensures after { plan board.new ≡ unless_small (length reply.old) (plan board.old) (plan_after P.Rank.Rank.first (P.ranks board.old.rule) (J.Judge.accepts board.old.judge) (J.allows board.old.judge) (plan board.old) (asked line.now)) }
     ensures judge { board.new.judge ≡ board.old.judge }
     ensures rule { board.new.rule ≡ board.old.rule }
 {
@@ -49,9 +49,9 @@ fn admit<J: SizingJudge, P: Placement>(
     reply: &mut [u8],
 ) -> usize
     requires { 256 ≤ length reply.old }
-    ensures wrote { Wrote reply.old 0 (admit_text (admitted Rank-as-Rank.first (ranks board.old.rule) (J.Judge.accepts board.old.judge) (allows board.old.judge) (plan board.old) request.key request.budget request.deadline request.period)) reply.new result }
+    ensures wrote { Wrote reply.old 0 (admit_text (admitted P.Rank.Rank.first (P.ranks board.old.rule) (J.Judge.accepts board.old.judge) (J.allows board.old.judge) (plan board.old) request.key request.budget request.deadline request.period)) reply.new result }
     ensures short { result ≤ 256 }
-    ensures after { plan board.new ≡ after (plan board.old) (admitted Rank-as-Rank.first (ranks board.old.rule) (J.Judge.accepts board.old.judge) (allows board.old.judge) (plan board.old) request.key request.budget request.deadline request.period) }
+    ensures after { plan board.new ≡ after (plan board.old) (admitted P.Rank.Rank.first (P.ranks board.old.rule) (J.Judge.accepts board.old.judge) (J.allows board.old.judge) (plan board.old) request.key request.budget request.deadline request.period) }
     ensures judge { board.new.judge ≡ board.old.judge }
     ensures rule { board.new.rule ≡ board.old.rule }
 {
@@ -68,9 +68,9 @@ fn admit<J: SizingJudge, P: Placement>(
 
 fn leave<J: Judge, P>(board: &mut Board<J, P>, key: u32, reply: &mut [u8]) -> usize
     requires { 256 ≤ length reply.old }
-    ensures wrote { Wrote reply.old 0 (leave_text key (withdrawal (accepts board.old.judge) key (plan board.old)).1 (withdrawal (accepts board.old.judge) key (plan board.old)).0) reply.new result }
+    ensures wrote { Wrote reply.old 0 (leave_text key (withdrawal (J.accepts board.old.judge) key (plan board.old)).1 (withdrawal (J.accepts board.old.judge) key (plan board.old)).0) reply.new result }
     ensures short { result ≤ 256 }
-    ensures after { plan board.new ≡ (withdrawal (accepts board.old.judge) key (plan board.old)).1 }
+    ensures after { plan board.new ≡ (withdrawal (J.accepts board.old.judge) key (plan board.old)).1 }
     ensures judge { board.new.judge ≡ board.old.judge }
     ensures rule { board.new.rule ≡ board.old.rule }
 {

@@ -8,9 +8,9 @@ use Rattle.bench.proofs.admitting.placed_rows.Goals as goal
 pub loop-row-preserved : goal.loop-row-preserved
 loop-row-preserved c =
     line_more (λ x. row_line x.processor x.row) c.args.rows.now c.loop-row.row-index c.row-item.result
-    (string_bytes c.loop-row.text) c.as-str.result.now (string_bytes c.push-str.new.self)
+    (string_bytes c.loop-row.text) c.as_str.result.now (string_bytes c.push_str.new.self)
     c.loop-row-test.true c.row-item.is c.loop-row.invariant
-    (c.as-str.ensures.value ∙ c.in-ok-line.ensures) c.in-ok-push-str.ensures.bytes
+    (c.as_str.ensures.value ∙ c.in_ok-line.ensures) c.in_ok-push_str.ensures.bytes
 
 pub returns : goal.returns
 returns c = c.loop-row.invariant ∙ ap rows_text (take_all c.loop-row.row-index c.args.rows.now c.loop-row-test.false)

@@ -2,8 +2,8 @@ use Rattle.std.proofs.Common.{length, ap, arith}
 use Rattle.bench.proofs.Images.{field_short, line_short}
 use Rattle.bench.proofs.answer.answer.Goals as goal
 
-pub load-line-requires : goal.load-line-requires
-load-line-requires g c =
+pub load_line-requires : goal.load_line-requires
+load_line-requires g c =
     omega (
       arith,
       field_short c.args.line.now 1,

@@ -5,8 +5,8 @@ use Rattle.benchlines.proofs.hex.write_bytes.Goals as goal
 
 pub loop-i-preserved : goal.loop-i-preserved
 loop-i-preserved c = (
-  decoded_more c.args.text.now c.loop-i.bytes c.loop-i.i c.byte-of.result (omega arith) (omega arith) c.byte-of.ensures c.loop-i.invariant.0,
-  beyond_more c.args.bytes.now c.loop-i.bytes c.loop-i.i c.byte-of.result (omega arith) (omega arith) c.loop-i.invariant.1,
+  decoded_more c.args.text.now c.loop-i.bytes c.loop-i.i c.byte_of.result (omega arith) (omega arith) c.byte_of.ensures c.loop-i.invariant.0,
+  beyond_more c.args.bytes.now c.loop-i.bytes c.loop-i.i c.byte_of.result (omega arith) (omega arith) c.loop-i.invariant.1,
 )
 
 pub returns : goal.returns

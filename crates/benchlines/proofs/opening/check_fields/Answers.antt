@@ -8,5 +8,5 @@ use Rattle.benchlines.proofs.opening.check_fields.Goals as goal
 pub returns : goal.returns
 returns c =
     let fs = fields c.args.line.now in
-    c.check-numbers-2.ensures ∙ ap (λ n. checked fs 6 (n - 6)) c.wanted.ensures
-    ∙ ap (λ v. then_do v (λ u. checked fs 6 (wanted fs - 6))) (sym c.in-ok-check-numbers.was ∙ c.check-numbers.ensures)
+    c.check_numbers-2.ensures ∙ ap (λ n. checked fs 6 (n - 6)) c.wanted.ensures
+    ∙ ap (λ v. then_do v (λ u. checked fs 6 (wanted fs - 6))) (sym c.in_ok-check_numbers.was ∙ c.check_numbers.ensures)

@@ -7,8 +7,8 @@ use Rattle.benchlines.proofs.order.read_order.Goals as goal
 
 pub loop-i-preserved : goal.loop-i-preserved
 loop-i-preserved c = (
-  order_more (fields c.args.line.now) c.loop-i.order c.loop-i.i c.number-at.result c.min.result
-      (omega arith) c.loop-i.invariant.1 c.number-at.ensures c.min.ensures
+  order_more (fields c.args.line.now) c.loop-i.order c.loop-i.i c.number_at.result c.min.result
+      (omega arith) c.loop-i.invariant.1 c.number_at.ensures c.min.ensures
       c.loop-i.invariant.0,
   simp length-set c.loop-i.invariant.1,
 )

@@ -19,14 +19,14 @@ loop-i-preserved c =
     let rows = held c.loop-i.placed in let cut = c.served.result in
     let row = placed c.args.key cut.processor (Kind.Tail (c.loop-i.i + 1)) cut.timing in
     let more : held c.push-in-loop-i.new.self ≡ rows ++ (row ∷ [])
-    = c.push-in-loop-i.ensures.after ∙ pushed_room 8 rows c.tail-row.result (omega arith) ∙ ap (λ x. rows ++ (x ∷ [])) c.tail-row.ensures in (
+    = c.push-in-loop-i.ensures.after ∙ pushed_room 8 rows c.tail_row.result (omega arith) ∙ ap (λ x. rows ++ (x ∷ [])) c.tail_row.ensures in (
       tails_more c.args.key c.args.cuts.now c.loop-i.i cut rows (held c.push-in-loop-i.new.self)
           (held c.push.new.self ++ tails c.args.key 1 (reverse c.args.cuts.now)) c.loop-i-test.true c.served.ensures more c.loop-i.invariant.0,
       ap length more ∙ length_push rows row ∙ ap (λ n. n + 1) c.loop-i.invariant.1,
     )
 
-pub invariant-of-result : goal.invariant-of-result
-invariant-of-result c = (omega (arith, length-take c.loop-i.placed.len c.loop-i.placed.items), tt)
+pub invariant_of-result : goal.invariant_of-result
+invariant_of-result c = (omega (arith, length-take c.loop-i.placed.len c.loop-i.placed.items), tt)
 
 pub returns : goal.returns
 returns c =

@@ -13,5 +13,5 @@ returns-in-Ok c =
     let b = c.in-Ok.opened in
     counted (plan b) opened.0 opened.3 c.of.ensures.refused
     (c.of.ensures.value
-    ∙ subst₂ (λ n r. c.admit-all.result ≡ count_over (admitting lt_z (λ processor spare rows. spare) (demand_yes scale n) (demand_allowance scale n r)) (plan b) c.args.wanted.now)
-    opened.1 opened.2 c.admit-all.ensures)
+    ∙ subst₂ (λ n r. c.admit_all.result ≡ count_over (admitting lt_z (λ processor spare rows. spare) (demand_yes scale n) (demand_allowance scale n r)) (plan b) c.args.wanted.now)
+    opened.1 opened.2 c.admit_all.ensures)

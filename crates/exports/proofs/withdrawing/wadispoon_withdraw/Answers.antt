@@ -11,4 +11,4 @@ returns-in-Ok c =
     let b = c.in-Ok.opened in
     counted (plan b) opened.0 opened.3 c.of.ensures.refused
     (c.of.ensures.value
-    ∙ subst (λ n. c.withdraw-all.result ≡ count_over (withdrawing (demand_yes scale n)) (plan b) c.args.keys.now) opened.1 c.withdraw-all.ensures)
+    ∙ subst (λ n. c.withdraw_all.result ≡ count_over (withdrawing (demand_yes scale n)) (plan b) c.args.keys.now) opened.1 c.withdraw_all.ensures)

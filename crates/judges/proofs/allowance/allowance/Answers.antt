@@ -14,17 +14,17 @@ refined-room-requires c =
       stepped = c.requires.stepped;
       periodic = (omega arith, omega arith);
       started = omega (arith, c.loop.invariant, turns_le_period scale c.args.steps c.args.list.now c.args.period c.args.cap c.loop.counter);
-      short = omega (arith, c.fixed-room-fixed.ensures, fixed_le_period scale c.args.steps c.args.list.now c.args.period c.args.cap);
+      short = omega (arith, c.fixed_room-fixed.ensures, fixed_le_period scale c.args.steps c.args.list.now c.args.period c.args.cap);
     }
 
 pub loop-preserved : goal.loop-preserved
 loop-preserved c =
     turned scale c.args.steps c.args.list.now c.args.period c.args.cap c.loop.counter c.loop.room
-    c.fixed-room-fixed.result c.refined-room.result
-    c.loop.invariant c.fixed-room-fixed.ensures c.refined-room.ensures
+    c.fixed_room-fixed.result c.refined-room.result
+    c.loop.invariant c.fixed_room-fixed.ensures c.refined-room.ensures
 
-pub overflow-cast-result : goal.overflow-cast-result
-overflow-cast-result c =
+pub overflow_cast-result : goal.overflow_cast-result
+overflow_cast-result c =
     omega (arith, c.loop.invariant, turns_le_cap scale c.args.steps c.args.list.now c.args.period c.args.cap c.loop.counter)
 
 pub returns : goal.returns

@@ -5,8 +5,8 @@ use Rattle.judges.proofs.Walk.{left_none}
 use Rattle.judges.proofs.AllowanceWalk.{point_passed, row_passed}
 use Rattle.judges.proofs.allowance.refined.Goals as goal
 
-pub point-room-room-requires : goal.point-room-room-requires
-point-room-room-requires c =
+pub point_room-room-requires : goal.point_room-room-requires
+point_room-room-requires c =
     record {
       stepped = c.requires.stepped;
       periodic = c.requires.periodic;
@@ -25,11 +25,11 @@ point-room-room-requires c =
 pub loop-k-preserved : goal.loop-k-preserved
 loop-k-preserved c = (
   point_passed scale c.args.steps c.args.list.now c.args.period c.args.start c.index-list-i.result c.loop-i.room c.loop-k.k
-      c.loop-k.room c.point-p.result _ c.point-room-room.result
+      c.loop-k.room c.point-p.result _ c.point_room-room.result
       c.loop-k.invariant.0 c.point-p.ensures.value
       (c.requires.slacks c.loop-i.i c.index-list-i.result c.loop-i-test.true c.index-list-i.is c.loop-k.k (omega arith))
-      c.point-room-room.ensures,
-  omega (arith, c.point-room-room.ensures),
+      c.point_room-room.ensures,
+  omega (arith, c.point_room-room.ensures),
 )
 
 pub loop-i-preserved : goal.loop-i-preserved

@@ -9,14 +9,14 @@ soon c =
     step_soon c.loop-k.k c.args.steps c.args.period c.args.spare c.loop-k-test.true c.requires.stepped c.requires.periodic
     (omega (arith, c.requires.left, spare_le scale c.args.list.now c.args.period))
 
-pub overflow-mul-end : goal.overflow-mul-end
-overflow-mul-end c = omega (arith, soon c)
+pub overflow_mul-end : goal.overflow_mul-end
+overflow_mul-end c = omega (arith, soon c)
 
-pub overflow-mul-time : goal.overflow-mul-time
-overflow-mul-time c = omega (arith, soon c)
+pub overflow_mul-time : goal.overflow_mul-time
+overflow_mul-time c = omega (arith, soon c)
 
-pub overflow-add-end : goal.overflow-add-end
-overflow-add-end c = omega (arith, soon c)
+pub overflow_add-end : goal.overflow_add-end
+overflow_add-end c = omega (arith, soon c)
 
 pub approximates-requires : goal.approximates-requires
 approximates-requires c =
@@ -25,5 +25,5 @@ approximates-requires c =
 pub loop-k-preserved : goal.loop-k-preserved
 loop-k-preserved c =
     step_passed scale c.args.steps c.args.list.now c.args.period c.args.room c.loop-k.k c.loop-k.least c.args.spare
-    c.approximates.result c.saturating-sub-free.result c.min-least.result
-    c.loop-k.invariant c.requires.left c.approximates.ensures.value c.saturating-sub-free.ensures c.min-least.ensures
+    c.approximates.result c.saturating_sub-free.result c.min-least.result
+    c.loop-k.invariant c.requires.left c.approximates.ensures.value c.saturating_sub-free.ensures c.min-least.ensures

@@ -15,12 +15,12 @@ line n x t u p slope last h =
 line-within : (n : ℕ) (x : Timing) (t u p : ℕ) → u ≡ share scale x → p ≡ point x n → p ≤ t → scale * ((n + 1) * x.budget) + u * (t - p) ≤ scale * t
 line-within n x t u p slope last h = omega (arith, line n x t u p slope last h, approximate_within scale n x t)
 
-pub overflow-mul-result-else-t-last-2 : goal.overflow-mul-result-else-t-last-2
-overflow-mul-result-else-t-last-2 c =
+pub overflow_mul-result-else-t-last-2 : goal.overflow_mul-result-else-t-last-2
+overflow_mul-result-else-t-last-2 c =
     omega (arith, line-within c.args.steps c.args.x.now c.args.t c.args.slope c.point-last.result c.requires.paired c.point-last.ensures.value c.if-t-last.false)
 
-pub overflow-add-result-else-t-last : goal.overflow-add-result-else-t-last
-overflow-add-result-else-t-last c =
+pub overflow_add-result-else-t-last : goal.overflow_add-result-else-t-last
+overflow_add-result-else-t-last c =
     omega (arith, line-within c.args.steps c.args.x.now c.args.t c.args.slope c.point-last.result c.requires.paired c.point-last.ensures.value c.if-t-last.false)
 
 pub returns-else-t-last : goal.returns-else-t-last

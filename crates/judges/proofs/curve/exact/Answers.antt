@@ -2,8 +2,8 @@ use Rattle.std.proofs.Common.{sym, arith}
 use Rattle.judges.specs.ApproximateLemmas.{exact_after, exact_within}
 use Rattle.judges.proofs.curve.exact.Goals as goal
 
-pub overflow-mul-result : goal.overflow-mul-result
-overflow-mul-result c = omega (arith, exact_within c.args.x.now c.args.t (omega arith))
+pub overflow_mul-result : goal.overflow_mul-result
+overflow_mul-result c = omega (arith, exact_within c.args.x.now c.args.t (omega arith))
 
 pub returns-else-t-x : goal.returns-else-t-x
 returns-else-t-x c =

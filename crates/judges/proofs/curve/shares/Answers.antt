@@ -18,8 +18,8 @@ complete each l i e low high =
     let end : length l ≡ i = omega arith in
     ap (λ n. take n each) end ∙ e ∙ ap (map (share scale)) (take_all i l low)
 
-pub overflow-cast-each : goal.overflow-cast-each
-overflow-cast-each c = omega (arith, share_le scale c.index-list-i.result)
+pub overflow_cast-each : goal.overflow_cast-each
+overflow_cast-each c = omega (arith, share_le scale c.index-list-i.result)
 
 pub loop-i-preserved : goal.loop-i-preserved
 loop-i-preserved c =

@@ -21,24 +21,24 @@ start : {R : Type 0} (first : R → R → Bool) (ranks : ℕ → ℤ → ℕ →
 start first ranks [] d h = absurd (false-eqb (length {A = Candidate} []) 0 h refl)
 start first ranks (a ∷ l) d h = refl
 
-pub returns-then-is-empty : goal.returns-then-is-empty
-returns-then-is-empty g c =
-    let e : c.args.candidates.now ≡ [] = none c.args.candidates.now c.if-is-empty.ensures in
-    record { value = sym (ap (choice g.Rank-as-Rank.first (g.P.Placement.ranks c.args.rule.now)) e); first = e; only = λ d f. absurd (no_middle f.before d f.after (sym e ∙ f.stands)) }
+pub returns-then-is_empty : goal.returns-then-is_empty
+returns-then-is_empty g c =
+    let e : c.args.candidates.now ≡ [] = none c.args.candidates.now c.if-is_empty.ensures in
+    record { value = sym (ap (choice g.P.Rank.Rank.first (g.P.Placement.ranks c.args.rule.now)) e); first = e; only = λ d f. absurd (no_middle f.before d f.after (sym e ∙ f.stands)) }
 
 pub loop-i-init : goal.loop-i-init
 loop-i-init g c =
-    start g.Rank-as-Rank.first (g.P.Placement.ranks c.args.rule.now) c.args.candidates.now (record { processor = 0; spare = pos 0; rows = 0 }) c.if-is-empty.ensures
+    start g.P.Rank.Rank.first (g.P.Placement.ranks c.args.rule.now) c.args.candidates.now (record { processor = 0; spare = pos 0; rows = 0 }) c.if-is_empty.ensures
 
 pub loop-i-preserved : goal.loop-i-preserved
 loop-i-preserved g c =
-    let first = g.Rank-as-Rank.first in let ranks = g.P.Placement.ranks c.args.rule.now in let l = c.args.candidates.now in
+    let first = g.P.Rank.Rank.first in let ranks = g.P.Placement.ranks c.args.rule.now in let l = c.args.candidates.now in
     let d : Candidate = record { processor = 0; spare = pos 0; rows = 0 } in let i = c.loop-i.i in
     ap Some (more first ranks l i d c.loop-i.chosen c.better-chosen.result c.loop-i-test.true c.better-chosen.ensures) ∙ c.loop-i.invariant
 
 pub returns : goal.returns
 returns g c =
-    let first = g.Rank-as-Rank.first in let ranks = g.P.Placement.ranks c.args.rule.now in let l = c.args.candidates.now in
+    let first = g.P.Rank.Rank.first in let ranks = g.P.Placement.ranks c.args.rule.now in let l = c.args.candidates.now in
     let all : best_of first ranks c.loop-i.chosen (drop c.loop-i.i l) ≡ c.loop-i.chosen = at_drop_all (best_of first ranks c.loop-i.chosen) l c.loop-i.i c.loop-i-test.false in
     let value : Some c.loop-i.chosen ≡ choice first ranks l = ap Some (sym all) ∙ c.loop-i.invariant in
     let law = g.met.P.Rank.Rank in

@@ -4,5 +4,5 @@ use Rattle.placement.proofs.first.choose.Given as goal
 
 abbrev pub invariant-loop-i : goal.invariant-loop-i
 invariant-loop-i g l =
-    Some (best_of g.Rank-as-Rank.first (g.P.Placement.ranks l.rule) l.chosen (drop l.i l.candidates))
-    ≡ choice g.Rank-as-Rank.first (g.P.Placement.ranks l.rule) l.candidates
+    Some (best_of g.P.Rank.Rank.first (g.P.Placement.ranks l.rule) l.chosen (drop l.i l.candidates))
+    ≡ choice g.P.Rank.Rank.first (g.P.Placement.ranks l.rule) l.candidates

@@ -12,8 +12,8 @@ use Rattle.promise.proofs.history.run.Goals as goal
 
 pub loop-call-init : goal.loop-call-init
 loop-call-init g c =
-    let o = c.in-ok-outcome.outcome in
-    let begun = c.in-ok-outcome.ensures in
+    let o = c.in_ok-outcome.outcome in
+    let begun = c.in_ok-outcome.ensures in
     let b = o.board in (
       omega (arith, o.answers.ok.0, ap length begun.4),
       begun.5,
@@ -24,7 +24,7 @@ loop-call-init g c =
 
 pub loop-call-preserved : goal.loop-call-preserved
 loop-call-preserved g c =
-    let b = c.in-ok-outcome.outcome.board in
+    let b = c.in_ok-outcome.outcome.board in
     let inv = c.loop-call.invariant in
     let calls = c.args.calls.now in
     let i = c.loop-call.call-index in
@@ -34,19 +34,19 @@ loop-call-preserved g c =
     let derived : Derived (meant g.Rank.Rank.first (g.P.Placement.ranks b.rule) (g.J.Judge.accepts b.judge) (g.J.SizingJudge.allows b.judge)) before call c.make-answer.result next =
     subst (λ j. Derived (meant g.Rank.Rank.first (g.P.Placement.ranks b.rule) (g.J.Judge.accepts j) (g.J.SizingJudge.allows j)) before call c.make-answer.result next) inv.2
     (subst (λ r. Derived (meant g.Rank.Rank.first (g.P.Placement.ranks r) (g.J.Judge.accepts c.loop-call.outcome.board.judge) (g.J.SizingJudge.allows c.loop-call.outcome.board.judge)) before call c.make-answer.result next) inv.3 c.make-answer.ensures.derived) in (
-      omega (arith, c.push-reserved.ensures.len, inv.0),
-      omega (arith, c.push-reserved.ensures.capacity, inv.1),
+      omega (arith, c.push_reserved.ensures.len, inv.0),
+      omega (arith, c.push_reserved.ensures.capacity, inv.1),
       c.make-answer.ensures.judge ∙ inv.2,
       c.make-answer.ensures.rule ∙ inv.3,
       subst₂ (λ (cs : List Call) (said : List Answer). History (meant g.Rank.Rank.first (g.P.Placement.ranks b.rule) (g.J.Judge.accepts b.judge) (g.J.SizingJudge.allows b.judge)) (plan b) cs said next)
-          (sym (take_more calls i (Call.Admit 0 0 0 0) c.loop-call-test.true)) (sym c.push-reserved.ensures.items) (history_push call c.make-answer.result inv.4 derived),
+          (sym (take_more calls i (Call.Admit 0 0 0 0) c.loop-call-test.true)) (sym c.push_reserved.ensures.items) (history_push call c.make-answer.result inv.4 derived),
     )
 
 pub returns : goal.returns
 returns g c =
-    let set = c.in-ok-outcome.ensures in
+    let set = c.in_ok-outcome.ensures in
     let inv = c.loop-call.invariant in
-    let b = c.in-ok-outcome.outcome.board in
+    let b = c.in_ok-outcome.outcome.board in
     let j = c.args.judge in
     let rule = c.args.rule in
     let calls = c.args.calls.now in

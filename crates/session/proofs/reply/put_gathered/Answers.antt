@@ -13,15 +13,15 @@ loop-i-preserved c =
     let out = c.loop-i.out in let end = c.loop-i.end in let here = c.index-processors-i.result in
     let rest = gathered_text (i + 1 + 1) (drop (i + 1) keys) (drop (i + 1) (map rows_of all)) in
     let more = step_both rows_of (i + 1) keys all i here (omega arith) (omega arith) c.index-processors-i.is in
-    let row : c.gathered-row-row.result ≡ gathered_row (get_or keys i 0) (rows_of here) =
-    c.gathered-row-row.ensures
-    ∙ (ap (gathered_row (get_or keys i 0)) c.as-slice.ensures.value
+    let row : c.gathered_row-row.result ≡ gathered_row (get_or keys i 0) (rows_of here) =
+    c.gathered_row-row.ensures
+    ∙ (ap (gathered_row (get_or keys i 0)) c.as_slice.ensures.value
     ∙ ap (λ p. gathered_row (get_or keys i 0) (rows_of p)) (sym c.index-processors-i.is)) in
-    let line = subst (λ r. Wrote out end (line_if (i + 1) r) c.put-if-end.new.out c.put-if-end.result) row c.put-if-end.ensures.wrote in (
+    let line = subst (λ r. Wrote out end (line_if (i + 1) r) c.put_if-end.new.out c.put_if-end.result) row c.put_if-end.ensures.wrote in (
       (λ then last left.
           c.loop-i.invariant.0 then last
           (subst (λ t. Wrote out end t then last) (sym more)
-          (wrote_then out end (gathered_line (i + 1) (get_or keys i 0) (rows_of here)) c.put-if-end.new.out c.put-if-end.result rest then last
+          (wrote_then out end (gathered_line (i + 1) (get_or keys i 0) (rows_of here)) c.put_if-end.new.out c.put_if-end.result rest then last
           (omega arith) line left))),
       omega arith,
     )

@@ -13,8 +13,8 @@ pub loop-placed-preserved : goal.loop-placed-preserved
 loop-placed-preserved c = (
   wrote_each_more (λ x. row_line x.processor x.row) c.args.rows.now c.loop-placed.placed-index c.placed-item.result
       c.loop-placed-test.true c.placed-item.is
-      c.args.out.now c.args.at c.loop-placed.out c.loop-placed.end c.put-row-end.new.out c.put-row-end.result
-      (omega arith) c.loop-placed.invariant.0 c.put-row-end.ensures.wrote,
+      c.args.out.now c.args.at c.loop-placed.out c.loop-placed.end c.put_row-end.new.out c.put_row-end.result
+      (omega arith) c.loop-placed.invariant.0 c.put_row-end.ensures.wrote,
   omega arith,
 )
 

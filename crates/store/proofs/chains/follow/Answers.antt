@@ -13,10 +13,10 @@ returns-then-chain-eq-LONGEST c = (
   refl,
 )
 
-pub returns-in-err-mark : goal.returns-in-err-mark
-returns-in-err-mark c =
-    let p = err_from_is_err_and c.from-residual.result c.from-residual.ensures.1 in
-    let no = refused _ _ _ c.mark.result c.mark.ensures.value c.in-err-mark.was in
+pub returns-in_err-mark : goal.returns-in_err-mark
+returns-in_err-mark c =
+    let p = err_from_is_err_and c.from_residual.result c.from_residual.ensures.1 in
+    let no = refused _ _ _ c.mark.result c.mark.ensures.value c.in_err-mark.was in
     rw (p.1, p.2) (
       sym c.loop-number.invariant
           ∙ walk_barred (next_at c.args.shape.processors c.args.image.now) c.args.shape.records _ c.loop-number.number
@@ -27,9 +27,9 @@ returns-in-err-mark c =
 pub loop-number-preserved : goal.loop-number-preserved
 loop-number-preserved c =
     walk_again (next_at c.args.shape.processors c.args.image.now) c.args.shape.records
-    c.loop-number.chain.count c.push.new.self.count c.loop-number.number c.two-at-number-in-loop-number.result
+    c.loop-number.chain.count c.push.new.self.count c.loop-number.number c.two_at-number-in-loop-number.result
     (numbers_of c.loop-number.chain) (numbers_of c.push.new.self) c.loop-number.reached c.mark.new.reached _ _ _ c.mark.result
-    (omega arith) c.loop-number-test.true c.mark.ensures.value c.in-ok-mark.was c.mark.ensures.after c.push.ensures.count c.push.ensures.after c.two-at-number-in-loop-number.ensures
+    (omega arith) c.loop-number-test.true c.mark.ensures.value c.in_ok-mark.was c.mark.ensures.after c.push.ensures.count c.push.ensures.after c.two_at-number-in-loop-number.ensures
     c.loop-number.invariant
 
 pub returns : goal.returns

@@ -5,4 +5,4 @@ use Rattle.std.proofs.Common.{length, refl}
 pub returns : goal.returns
 returns c =
     put_is c.args.buffer.now c.args.at (length c.args.bytes.now) c.args.bytes.now
-    c.copy-from-slice.new.self c.copy-from-slice.ensures.after refl
+    c.copy_from_slice.new.self c.copy_from_slice.ensures.after refl

@@ -7,16 +7,16 @@ use Rattle.store.proofs.keys.count_firsts.Goals.{then-not-is-tail, else-not-is-t
 
 pub loop-row-preserved : goal.loop-row-preserved
 loop-row-preserved c =
-    elim c.if-not-is-tail.branch [
+    elim c.if-not-is_tail.branch [
       | then-not-is-tail w ↦
           let step =
           firsts_at c.args.rows.now c.loop-row.row-index c.row-item.result c.is_tail.result false (omega arith)
-          c.row-item.is c.is_tail.ensures w.if-not-is-tail.true in
+          c.row-item.is c.is_tail.ensures w.if-not-is_tail.true in
           (omega arith, omega arith)
       | else-not-is-tail w ↦
           let step =
           firsts_at c.args.rows.now c.loop-row.row-index c.row-item.result c.is_tail.result true (omega arith)
-          c.row-item.is c.is_tail.ensures w.if-not-is-tail.false in
+          c.row-item.is c.is_tail.ensures w.if-not-is_tail.false in
           (omega arith, omega arith)
     ]
 

@@ -7,16 +7,16 @@ use Rattle.store.proofs.keys.count_part.Goals.{then-part-of-wanted, else-part-of
 
 pub loop-row-preserved : goal.loop-row-preserved
 loop-row-preserved c =
-    elim c.if-part-of-wanted.branch [
+    elim c.if-part_of-wanted.branch [
       | then-part-of-wanted w ↦
           let step =
           times_hit c.args.wanted c.args.rows.now c.loop-row.row-index c.row-item.result (omega arith) c.row-item.is
-          (sym c.part-of.ensures ∙ w.if-part-of-wanted.true) in
+          (sym c.part_of.ensures ∙ w.if-part_of-wanted.true) in
           (omega arith, omega arith)
       | else-part-of-wanted w ↦
           let step =
           times_miss c.args.wanted c.args.rows.now c.loop-row.row-index c.row-item.result (omega arith) c.row-item.is
-          (λ e. w.if-part-of-wanted.false (c.part-of.ensures ∙ e)) in
+          (λ e. w.if-part_of-wanted.false (c.part_of.ensures ∙ e)) in
           (omega arith, omega arith)
     ]
 

@@ -5,20 +5,20 @@ use Rattle.store.proofs.Drops.{seen_all}
 use Rattle.store.proofs.Pieces.{apart_at, pieces_at}
 use Rattle.store.proofs.keys.pieces_of.Goals as goal
 
-pub returns-then-not-add-piece : goal.returns-then-not-add-piece
-returns-then-not-add-piece c =
+pub returns-then-not-add_piece : goal.returns-then-not-add_piece
+returns-then-not-add_piece c =
     sym c.loop-rows.invariant.1
     ∙ apart_at c.args.key c.args.plan.now c.loop-rows.rows-index c.rows-item.result c.all.result.now false (omega arith)
-    c.rows-item.is c.all.ensures c.if-not-add-piece.ensures.value
+    c.rows-item.is c.all.ensures c.if-not-add_piece.ensures.value
 
 pub loop-rows-preserved : goal.loop-rows-preserved
 loop-rows-preserved c = (
-  omega (arith, c.add-piece.ensures.count),
+  omega (arith, c.add_piece.ensures.count),
   sym (apart_at c.args.key c.args.plan.now c.loop-rows.rows-index c.rows-item.result c.all.result.now true (omega arith)
-      c.rows-item.is c.all.ensures c.if-not-add-piece.ensures.value) ∙ c.loop-rows.invariant.1,
+      c.rows-item.is c.all.ensures c.if-not-add_piece.ensures.value) ∙ c.loop-rows.invariant.1,
   pieces_at c.args.key c.args.plan.now c.loop-rows.rows-index c.rows-item.result c.all.result.now
-      (rows_in c.loop-rows.found) (rows_in c.add-piece.new.found) _ (omega arith)
-      c.rows-item.is c.all.ensures (c.if-not-add-piece.ensures.after refl) c.loop-rows.invariant.2,
+      (rows_in c.loop-rows.found) (rows_in c.add_piece.new.found) _ (omega arith)
+      c.rows-item.is c.all.ensures (c.if-not-add_piece.ensures.after refl) c.loop-rows.invariant.2,
 )
 
 pub returns : goal.returns

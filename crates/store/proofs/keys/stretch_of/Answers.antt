@@ -5,8 +5,8 @@ use Rattle.store.proofs.Drops.{left_more}
 use Rattle.store.proofs.Pieces.{stretch_le}
 use Rattle.store.proofs.keys.stretch_of.Goals as goal
 
-pub overflow-add-ticks : goal.overflow-add-ticks
-overflow-add-ticks c = omega (arith, stretch_le c.row-item.result)
+pub overflow_add-ticks : goal.overflow_add-ticks
+overflow_add-ticks c = omega (arith, stretch_le c.row-item.result)
 
 pub loop-row-preserved : goal.loop-row-preserved
 loop-row-preserved c = (

@@ -8,12 +8,12 @@ use Rattle.store.proofs.Meaning.{means}
 use Rattle.store.proofs.Only.{loads_only}
 use Rattle.store.proofs.load.load.Goals as goal
 
-pub returns-in-err-unpacked : goal.returns-in-err-unpacked
-returns-in-err-unpacked g c =
-    let p = err_from_is_err_and c.from-residual.result c.from-residual.ensures.1 in
+pub returns-in_err-unpacked : goal.returns-in_err-unpacked
+returns-in_err-unpacked g c =
+    let p = err_from_is_err_and c.from_residual.result c.from_residual.ensures.1 in
     let b = c.args.board.now in
     let n : length (plan b) ≡ c.len-count.result = omega (arith, length-map (vec_items b.processors) rows_of) in
-    let done = loaded_refused (g.J.Judge.accepts b.judge) c.args.image.now (plan b) c.len-count.result n _ c.in-err-unpacked.ensures in
+    let done = loaded_refused (g.J.Judge.accepts b.judge) c.args.image.now (plan b) c.len-count.result n _ c.in_err-unpacked.ensures in
     rw (p.1, p.2)
     record {
       loaded = done;
@@ -23,14 +23,14 @@ returns-in-err-unpacked g c =
       rule = refl;
     }
 
-pub returns-in-err-check-keys : goal.returns-in-err-check-keys
-returns-in-err-check-keys g c =
-    let p = err_from_is_err_and c.from-residual-in-err-check-keys.result c.from-residual-in-err-check-keys.ensures.1 in
+pub returns-in_err-check_keys : goal.returns-in_err-check_keys
+returns-in_err-check_keys g c =
+    let p = err_from_is_err_and c.from_residual-in_err-check_keys.result c.from_residual-in_err-check_keys.ensures.1 in
     let b = c.args.board.now in
     let n : length (plan b) ≡ c.len-count.result = omega (arith, length-map (vec_items b.processors) rows_of) in
     let done =
-    loaded_keys (g.J.Judge.accepts b.judge) c.args.image.now (plan b) c.len-count.result n c.in-ok-unpacked.unpacked
-    c.in-ok-unpacked.ensures.0 _ c.check-keys.result c.check-keys.ensures c.in-err-check-keys.was in
+    loaded_keys (g.J.Judge.accepts b.judge) c.args.image.now (plan b) c.len-count.result n c.in_ok-unpacked.unpacked
+    c.in_ok-unpacked.ensures.0 _ c.check_keys.result c.check_keys.ensures c.in_err-check_keys.was in
     rw (p.1, p.2)
     record {
       loaded = done;
@@ -40,15 +40,15 @@ returns-in-err-check-keys g c =
       rule = refl;
     }
 
-pub returns-in-err-check-judge : goal.returns-in-err-check-judge
-returns-in-err-check-judge g c =
-    let p = err_from_is_err_and c.from-residual-in-err-check-judge.result c.from-residual-in-err-check-judge.ensures.1 in
+pub returns-in_err-check_judge : goal.returns-in_err-check_judge
+returns-in_err-check_judge g c =
+    let p = err_from_is_err_and c.from_residual-in_err-check_judge.result c.from_residual-in_err-check_judge.ensures.1 in
     let b = c.args.board.now in
     let n : length (plan b) ≡ c.len-count.result = omega (arith, length-map (vec_items b.processors) rows_of) in
     let done =
-    loaded_judge (g.J.Judge.accepts b.judge) c.args.image.now (plan b) c.len-count.result n c.in-ok-unpacked.unpacked
-    c.in-ok-unpacked.ensures.0 _ c.check-keys.result c.check-keys.ensures c.in-ok-check-keys.was
-    _ c.check-judge.result c.check-judge.ensures c.in-err-check-judge.was in
+    loaded_judge (g.J.Judge.accepts b.judge) c.args.image.now (plan b) c.len-count.result n c.in_ok-unpacked.unpacked
+    c.in_ok-unpacked.ensures.0 _ c.check_keys.result c.check_keys.ensures c.in_ok-check_keys.was
+    _ c.check_judge.result c.check_judge.ensures c.in_err-check_judge.was in
     rw (p.1, p.2)
     record {
       loaded = done;
@@ -63,9 +63,9 @@ returns g c =
     let b = c.args.board.now in
     let n : length (plan b) ≡ c.len-count.result = omega (arith, length-map (vec_items b.processors) rows_of) in
     let done =
-    loaded_all (g.J.Judge.accepts b.judge) c.args.image.now (plan b) c.len-count.result n c.in-ok-unpacked.unpacked
-    c.in-ok-unpacked.ensures.0 _ c.check-keys.result c.check-keys.ensures c.in-ok-check-keys.was
-    _ c.check-judge.result _ c.check-judge.ensures c.in-ok-check-judge.was c.refill-all.ensures.after in
+    loaded_all (g.J.Judge.accepts b.judge) c.args.image.now (plan b) c.len-count.result n c.in_ok-unpacked.unpacked
+    c.in_ok-unpacked.ensures.0 _ c.check_keys.result c.check_keys.ensures c.in_ok-check_keys.was
+    _ c.check_judge.result _ c.check_judge.ensures c.in_ok-check_judge.was c.refill_all.ensures.after in
     record {
       loaded = done;
       rules = means (g.J.Judge.accepts b.judge) c.args.image.now (plan b) _ _ done;

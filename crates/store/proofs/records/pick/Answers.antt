@@ -5,8 +5,8 @@ use Rattle.store.specs.Records.{picked}
 use Rattle.store.proofs.ByNumber.{numbered_at, pick_more}
 use Rattle.store.proofs.records.pick.Goals as goal
 
-pub overflow-sub-number : goal.overflow-sub-number
-overflow-sub-number c = omega (arith, numbered_at 256 c.args.numbers.now c.loop-number.number-index (omega arith) c.requires.1.1)
+pub overflow_sub-number : goal.overflow_sub-number
+overflow_sub-number c = omega (arith, numbered_at 256 c.args.numbers.now c.loop-number.number-index (omega arith) c.requires.1.1)
 
 pub bounds-rows-number : goal.bounds-rows-number
 bounds-rows-number c = omega (arith, numbered_at 256 c.args.numbers.now c.loop-number.number-index (omega arith) c.requires.1.1)

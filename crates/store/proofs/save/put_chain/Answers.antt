@@ -9,9 +9,9 @@ pub loop-i-preserved : goal.loop-i-preserved
 loop-i-preserved c = (
   omega arith,
   omega arith,
-  chain_step c.loop-i.buffer c.put.new.buffer c.record.result c.loop-i.at c.loop-i.number c.next-of.result
+  chain_step c.loop-i.buffer c.put.new.buffer c.record.result c.loop-i.at c.loop-i.number c.next_of.result
       c.args.rows.now c.loop-i.i c.index-rows-i.result _
-      c.put.ensures c.record.ensures c.next-of.ensures (omega arith) (omega arith) c.index-rows-i.is c.loop-i.invariant.2,
+      c.put.ensures c.record.ensures c.next_of.ensures (omega arith) (omega arith) c.index-rows-i.is c.loop-i.invariant.2,
 )
 
 pub returns : goal.returns

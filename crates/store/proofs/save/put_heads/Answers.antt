@@ -10,9 +10,9 @@ pub loop-p-preserved : goal.loop-p-preserved
 loop-p-preserved c = (
   omega arith,
   omega arith,
-  heads_step c.loop-p.buffer c.put.new.buffer c.two.result c.loop-p.at c.loop-p.number c.first-of.result
+  heads_step c.loop-p.buffer c.put.new.buffer c.two.result c.loop-p.at c.loop-p.number c.first_of.result
       c.len-count.result c.args.processors.now c.loop-p.p-index c.p-item.result _
-      c.put.ensures c.two.ensures c.first-of.ensures (omega arith) (omega arith) (omega arith) c.p-item.is c.loop-p.invariant.2,
+      c.put.ensures c.two.ensures c.first_of.ensures (omega arith) (omega arith) (omega arith) c.p-item.is c.loop-p.invariant.2,
 )
 
 pub returns : goal.returns

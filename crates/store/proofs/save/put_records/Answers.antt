@@ -6,8 +6,8 @@ use Rattle.store.proofs.Buffers.{write_all}
 use Rattle.store.proofs.Images.{records_step}
 use Rattle.store.proofs.save.put_records.Goals as goal
 
-pub put-chain-requires : goal.put-chain-requires
-put-chain-requires c = (
+pub put_chain-requires : goal.put_chain-requires
+put_chain-requires c = (
   omega arith,
   (
     omega arith,
@@ -20,9 +20,9 @@ loop-p-preserved c = (
   omega arith,
   omega arith,
   omega (arith, seen_more rows_of row_count c.args.processors.now c.loop-p.p-index c.p-item.result (omega arith) c.p-item.is),
-  records_step c.loop-p.buffer c.put-chain.new.buffer c.loop-p.at c.loop-p.number _ c.as-slice-rows.result.now
+  records_step c.loop-p.buffer c.put_chain.new.buffer c.loop-p.at c.loop-p.number _ c.as_slice-rows.result.now
       c.args.processors.now c.loop-p.p-index c.p-item.result _
-      c.put-chain.ensures c.as-slice-rows.ensures.value (omega arith) (omega arith) (omega arith) c.p-item.is c.loop-p.invariant.3,
+      c.put_chain.ensures c.as_slice-rows.ensures.value (omega arith) (omega arith) (omega arith) c.p-item.is c.loop-p.invariant.3,
 )
 
 pub returns : goal.returns

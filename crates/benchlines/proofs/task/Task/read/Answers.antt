@@ -5,5 +5,5 @@ use Rattle.benchlines.proofs.task.Task.read.Goals as goal
 
 pub returns : goal.returns
 returns c =
-    let rows = rows_counted c.field-word.result.now (length (fields c.args.line.now)) c.count-fields.result c.count-fields.ensures in
+    let rows = rows_counted c.field-word.result.now (length (fields c.args.line.now)) c.count_fields.result c.count_fields.ensures in
     search rules

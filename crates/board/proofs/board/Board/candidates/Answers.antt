@@ -23,18 +23,18 @@ loop-i-preserved g c =
     let all = candidates test 1 (plan b) in
     let in-items : i < length items = omega arith in
     let in-plan : i < length (plan b) = omega (arith, length-map items rows_of) in
-    elim c.if-open-to.branch [
+    elim c.if-open_to.branch [
       | then-open-to w ↦
           let row : w.as_candidate.result ≡ as_candidate (i + 1) (get_or (plan b) i [])
           = w.as_candidate.ensures ∙ ap (as_candidate (i + 1)) (read_map rows_of items i w.index.result.now [] in-items w.index.ensures) in
-          let grown : held c.if-open-to.found ≡ found ++ (as_candidate (i + 1) (get_or (plan b) i []) ∷ [])
+          let grown : held c.if-open_to.found ≡ found ++ (as_candidate (i + 1) (get_or (plan b) i []) ∷ [])
           = ap held w.found-is ∙ w.push.ensures.after ∙ pushed_room 8 found w.as_candidate.result (omega arith) ∙ ap (λ x. found ++ (x ∷ [])) row in (
-            candidates_more test (plan b) i found (held c.if-open-to.found) all in-plan (sym w.if-open-to.ensures) grown c.loop-i.invariant.0,
+            candidates_more test (plan b) i found (held c.if-open_to.found) all in-plan (sym w.if-open_to.ensures) grown c.loop-i.invariant.0,
             omega (arith, ap length grown, length_push found (as_candidate (i + 1) (get_or (plan b) i []))),
           )
       | else-open-to w ↦
-          let same : held c.if-open-to.found ≡ found = ap held w.found-is in (
-            candidates_pass test (plan b) i (held c.if-open-to.found) all in-plan (sym w.if-open-to.ensures) (ap (λ l. l ++ candidates test (i + 1) (drop i (plan b))) same ∙ c.loop-i.invariant.0),
+          let same : held c.if-open_to.found ≡ found = ap held w.found-is in (
+            candidates_pass test (plan b) i (held c.if-open_to.found) all in-plan (sym w.if-open_to.ensures) (ap (λ l. l ++ candidates test (i + 1) (drop i (plan b))) same ∙ c.loop-i.invariant.0),
             omega (arith, ap length same),
           )
     ]

@@ -11,15 +11,15 @@ loop-i-preserved g c =
     let b = c.args.self.now in
     let offer = offer_at (g.J.SizingJudge.allows b.judge) c.args.cuts.now c.args.period c.args.cap in
     let i = c.loop-i.i in
-    let budget = c.offer-at-budget.result in
+    let budget = c.offer_at-budget.result in
     let best = c.loop-i.best in
     let in-plan : i < length (plan b) = omega (arith, length-map (vec_items b.processors) rows_of) in (
       longest_more offer (plan b) i budget best c.longer-best.result (longest offer 1 (plan b) (0, 0)) in-plan
-          c.offer-at-budget.ensures.value (sym c.longer-best.ensures) c.loop-i.invariant.0,
+          c.offer_at-budget.ensures.value (sym c.longer-best.ensures) c.loop-i.invariant.0,
       omega (
         arith,
         ap (λ (q : ℕ × ℕ). q.1) c.longer-best.ensures,
-        longer_within (i + 1) budget c.args.cap best c.offer-at-budget.ensures.bound c.loop-i.invariant.1,
+        longer_within (i + 1) budget c.args.cap best c.offer_at-budget.ensures.bound c.loop-i.invariant.1,
       ),
     )
 

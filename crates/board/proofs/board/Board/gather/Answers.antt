@@ -18,7 +18,7 @@ loop-i-preserved g c =
     let long : length (held c.push.new.self) ≡ i + 1 = omega (arith, ap length more, length_push keys c.if-visited-i.key) in
     elim c.if-visited-i.branch [
       | then-visited-i w ↦
-          let h = w.gather-at-key.ensures in
+          let h = w.gather_at-key.ensures in
           let m = visit_more (accepts b.judge) i visited (plan now) (plan next) c.if-visited-i.key all keys (held c.push.new.self) true
           c.loop-i-test.true w.if-visited-i.true
           (w.key_is ∙ h.key ∙ ap (λ j. (gather (accepts j) i (plan now)).0) c.loop-i.invariant.4)

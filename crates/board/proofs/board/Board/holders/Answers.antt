@@ -10,7 +10,7 @@ use Rattle.board.proofs.board.Board.holders.Goals as goal
 
 pub loop-processor-preserved : goal.loop-processor-preserved
 loop-processor-preserved g c =
-    let ps = c.as-slice-processor-items.result.now in let i = c.loop-processor.processor-index in let x = c.processor-item.result in
+    let ps = c.as_slice-processor-items.result.now in let i = c.loop-processor.processor-index in let x = c.processor-item.result in
     let before = held c.loop-processor.holders in
     let room : length before < 8
     = omega (arith, ap length c.loop-processor.invariant, length-map (take i (map rows_of ps)) (has_key c.args.key), length-take i (map rows_of ps), length-map ps rows_of) in
@@ -21,8 +21,8 @@ loop-processor-preserved g c =
 
 pub returns : goal.returns
 returns g c =
-    let ps = c.as-slice-processor-items.result.now in
+    let ps = c.as_slice-processor-items.result.now in
     c.loop-processor.invariant
     ∙ ap (map (has_key c.args.key))
     (take_all c.loop-processor.processor-index (map rows_of ps) (omega (arith, length-map ps rows_of))
-    ∙ ap (map rows_of) c.as-slice-processor-items.ensures.value)
+    ∙ ap (map rows_of) c.as_slice-processor-items.ensures.value)

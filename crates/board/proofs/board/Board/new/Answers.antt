@@ -7,6 +7,6 @@ pub loop-preserved : goal.loop-preserved
 loop-preserved g c = (
   omega arith,
   omega arith,
-  map_grown rows_of _ _ _ _ _ c.push-reserved.ensures.items c.loop.invariant.2
-      c.in-ok-with-capacity.ensures.items,
+  map_grown rows_of _ _ _ _ _ c.push_reserved.ensures.items c.loop.invariant.2
+      c.in_ok-with_capacity.ensures.items,
 )

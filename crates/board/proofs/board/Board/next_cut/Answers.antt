@@ -5,7 +5,7 @@ use Rattle.board.proofs.board.Board.next_cut.Goals as goal
 
 pub returns : goal.returns
 returns g c =
-    let tail = c.tail-of-timing.ensures in let rest = c.rest-of.ensures in
-    sym (cut_made c.args.head c.find-tail-processor.result.0 c.find-tail-processor.result.1 c.tail-of-timing.result c.rest-of.result
+    let tail = c.tail_of-timing.ensures in let rest = c.rest_of.ensures in
+    sym (cut_made c.args.head c.find_tail-processor.result.0 c.find_tail-processor.result.1 c.tail_of-timing.result c.rest_of.result
     (omega arith) tail.0 tail.1 tail.2 rest.0 rest.1 rest.2)
-    ∙ ap (λ (found : ℕ × ℕ). cut_off c.args.head found.0 found.1) c.find-tail-processor.ensures.value
+    ∙ ap (λ (found : ℕ × ℕ). cut_off c.args.head found.0 found.1) c.find_tail-processor.ensures.value

@@ -12,15 +12,15 @@ use Rattle.processor.proofs.Ends.{pushed_room}
 use Rattle.board.proofs.Splits.{split_none, split_placed, split_on}
 use Rattle.board.proofs.board.Board.split.Goals as goal
 
-pub returns-in-default : goal.returns-in-default
-returns-in-default g c =
+pub returns-in_default : goal.returns-in_default
+returns-in_default g c =
     let b = c.args.self.now in
     let pl : List Cut → Timing → Option ℕ
     = place g.Rank.Rank.first (g.P.Placement.ranks b.rule) (g.J.Judge.accepts b.judge) (plan b) in
     let nx : List Cut → Timing → Option (Cut × Timing) = next_cut (g.J.SizingJudge.allows b.judge) (plan b) in
     let m : ℕ = length (plan b) in
     let none : nx (held c.loop.cuts) c.loop.head ≡ None
-    = ap (λ l. nx l c.loop.head) (sym c.as-slice.ensures) ∙ sym c.next_cut.ensures ∙ c.in-default.is in
+    = ap (λ l. nx l c.loop.head) (sym c.as_slice.ensures) ∙ sym c.next_cut.ensures ∙ c.in_default.is in
     sym (split_none c.args.key pl nx m c.loop.counter (omega (arith, length-map (vec_items b.processors) rows_of)) (held c.loop.cuts) c.loop.head none)
     ∙ c.loop.invariant.0
     ∙ ap (λ l. split c.args.key pl nx (m - 1) l c.args.newcomer) c.new-cuts.ensures
@@ -36,12 +36,12 @@ returns g c =
     ∙ c.loop.invariant.0
     ∙ ap (λ l. split c.args.key pl nx (length (plan b) - 1) l c.args.newcomer) c.new-cuts.ensures
 
-pub split-rows-requires : goal.split-rows-requires
-split-rows-requires g c =
+pub split_rows-requires : goal.split_rows-requires
+split_rows-requires g c =
     let cuts = held c.loop.cuts in let cut = c.in-Some.next.0 in
     omega (
       arith,
-      ap length c.as-slice-in-Some-place.ensures,
+      ap length c.as_slice-in-Some-place.ensures,
       ap length (c.push.ensures.after ∙ pushed_room 8 cuts cut (omega arith)),
       length_push cuts cut,
     )
@@ -55,12 +55,12 @@ returns-in-Some-place g c =
     let m : ℕ = length (plan b) in
     let s : Cut × Timing = c.in-Some.next in
     let set : nx (held c.loop.cuts) c.loop.head ≡ Some s
-    = ap (λ l. nx l c.loop.head) (sym c.as-slice.ensures) ∙ sym c.in-Some.ensures in
+    = ap (λ l. nx l c.loop.head) (sym c.as_slice.ensures) ∙ sym c.in-Some.ensures in
     let grown : List Cut = held c.push.new.self in
     let more : grown ≡ held c.loop.cuts ++ (s.0 ∷ []) = c.push.ensures.after ∙ pushed_room 8 (held c.loop.cuts) s.0 (omega arith) in
     let on : pl grown s.1 ≡ Some c.in-Some-place.processor
-    = ap (λ l. pl l s.1) (sym c.as-slice-in-loop.ensures) ∙ sym c.in-Some-place.ensures in
-    ap Some (c.split-rows.ensures ∙ ap (split_rows c.args.key c.in-Some-place.processor s.1) c.as-slice-in-Some-place.ensures)
+    = ap (λ l. pl l s.1) (sym c.as_slice-in-loop.ensures) ∙ sym c.in-Some-place.ensures in
+    ap Some (c.split_rows.ensures ∙ ap (split_rows c.args.key c.in-Some-place.processor s.1) c.as_slice-in-Some-place.ensures)
     ∙ sym (split_placed c.args.key pl nx m c.loop.counter (omega (arith, length-map (vec_items b.processors) rows_of)) (held c.loop.cuts) c.loop.head s set grown more
     c.in-Some-place.processor on)
     ∙ c.loop.invariant.0
@@ -75,11 +75,11 @@ loop-preserved g c =
     let m : ℕ = length (plan b) in
     let s : Cut × Timing = c.in-Some.next in
     let set : nx (held c.loop.cuts) c.loop.head ≡ Some s
-    = ap (λ l. nx l c.loop.head) (sym c.as-slice.ensures) ∙ sym c.in-Some.ensures in
+    = ap (λ l. nx l c.loop.head) (sym c.as_slice.ensures) ∙ sym c.in-Some.ensures in
     let grown : List Cut = held c.push.new.self in
     let more : grown ≡ held c.loop.cuts ++ (s.0 ∷ []) = c.push.ensures.after ∙ pushed_room 8 (held c.loop.cuts) s.0 (omega arith) in
     let nowhere : pl grown s.1 ≡ None
-    = ap (λ l. pl l s.1) (sym c.as-slice-in-loop.ensures) ∙ sym c.place.ensures ∙ c.in-default-place.is in (
+    = ap (λ l. pl l s.1) (sym c.as_slice-in-loop.ensures) ∙ sym c.place.ensures ∙ c.in_default-place.is in (
       sym (split_on c.args.key pl nx m c.loop.counter (omega (arith, length-map (vec_items b.processors) rows_of)) (held c.loop.cuts) c.loop.head s set grown more nowhere)
           ∙ c.loop.invariant.0,
       omega (arith, ap length more, length_push (held c.loop.cuts) s.0),

@@ -7,18 +7,18 @@ use Rattle.board.proofs.board.Board.stands.Goals as goal
 
 pub returns-then-holds : goal.returns-then-holds
 returns-then-holds g c =
-    sym (any_here_map rows_of (has_key c.args.key) c.as-slice-processor-items.result.now c.loop-processor.processor-index
+    sym (any_here_map rows_of (has_key c.args.key) c.as_slice-processor-items.result.now c.loop-processor.processor-index
     c.processor-item.result c.loop-processor-test.true c.processor-item.is (sym c.if-holds.ensures))
-    ∙ c.loop-processor.invariant ∙ ap (λ ps. stands c.args.key (map rows_of ps)) c.as-slice-processor-items.ensures.value
+    ∙ c.loop-processor.invariant ∙ ap (λ ps. stands c.args.key (map rows_of ps)) c.as_slice-processor-items.ensures.value
 
 pub loop-processor-preserved : goal.loop-processor-preserved
 loop-processor-preserved g c =
-    sym (any_past_map rows_of (has_key c.args.key) c.as-slice-processor-items.result.now c.loop-processor.processor-index
+    sym (any_past_map rows_of (has_key c.args.key) c.as_slice-processor-items.result.now c.loop-processor.processor-index
     c.processor-item.result c.loop-processor-test.true c.processor-item.is (sym c.if-holds.ensures))
     ∙ c.loop-processor.invariant
 
 pub returns : goal.returns
 returns g c =
-    sym (any_none_map rows_of (has_key c.args.key) c.as-slice-processor-items.result.now c.loop-processor.processor-index
+    sym (any_none_map rows_of (has_key c.args.key) c.as_slice-processor-items.result.now c.loop-processor.processor-index
     c.loop-processor-test.false)
-    ∙ c.loop-processor.invariant ∙ ap (λ ps. stands c.args.key (map rows_of ps)) c.as-slice-processor-items.ensures.value
+    ∙ c.loop-processor.invariant ∙ ap (λ ps. stands c.args.key (map rows_of ps)) c.as_slice-processor-items.ensures.value

@@ -13,7 +13,7 @@ gather-keys-requires g c =
     let b = c.args.self.now in
     omega (
       arith,
-      ap length (c.as-slice.ensures ∙ c.holders-visited.ensures),
+      ap length (c.as_slice.ensures ∙ c.holders-visited.ensures),
       length-map (plan b) (has_key c.args.key),
       length-map (vec_items b.processors) rows_of,
       c.remove.ensures.count,

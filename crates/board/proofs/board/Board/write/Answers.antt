@@ -12,13 +12,13 @@ pub loop-placed-init : goal.loop-placed-init
 loop-placed-init g c =
     (subst (Room (plan c.args.self.now)) (sym c.rows-placed-items.ensures) c.requires, refl, refl, refl)
 
-pub overflow-sub-placed : goal.overflow-sub-placed
-overflow-sub-placed g c =
+pub overflow_sub-placed : goal.overflow_sub-placed
+overflow_sub-placed g c =
     (room_here (plan c.loop-placed.self) c.rows-placed-items.result.now c.loop-placed.placed-index c.placed-item.result
     c.loop-placed-test.true c.placed-item.is c.loop-placed.invariant.0).0
 
-pub index-mut-requires : goal.index-mut-requires
-index-mut-requires g c =
+pub index_mut-requires : goal.index_mut-requires
+index_mut-requires g c =
     let h = room_here (plan c.loop-placed.self) c.rows-placed-items.result.now c.loop-placed.placed-index c.placed-item.result
     c.loop-placed-test.true c.placed-item.is c.loop-placed.invariant.0 in
     omega (arith, h.0, h.1, length-map (vec_items c.loop-placed.self.processors) rows_of)
@@ -32,12 +32,12 @@ loop-placed-preserved g c =
     let p = c.placed-item.result in
     let h = room_here before rows k p c.loop-placed-test.true c.placed-item.is c.loop-placed.invariant.0 in
     let in-items : p.processor - 1 < length items = omega (arith, h.0, h.1, length-map items rows_of) in
-    let q = c.index-mut.result.now in
+    let q = c.index_mut.result.now in
     let room : length (rows_of q) < 32
-    = omega (arith, h.2, ap length (read_map rows_of items (p.processor - 1) q [] in-items c.index-mut.ensures.value)) in
+    = omega (arith, h.2, ap length (read_map rows_of items (p.processor - 1) q [] in-items c.index_mut.ensures.value)) in
     let next = map rows_of (set items (p.processor - 1) c.add.new.self) in
     let grown : next ≡ append (p.processor - 1) p.row before
-    = appended items (p.processor - 1) q c.add.new.self p.row in-items c.index-mut.ensures.value
+    = appended items (p.processor - 1) q c.add.new.self p.row in-items c.index_mut.ensures.value
     (c.add.ensures.after ∙ added_room (rows_of q) p.row room) in (
       room_after before rows k p c.loop-placed-test.true c.placed-item.is next grown c.loop-placed.invariant.0,
       written_more before rows k p c.loop-placed-test.true c.placed-item.is next (written (plan c.args.self.now) rows) grown c.loop-placed.invariant.1,

@@ -7,17 +7,17 @@ use Rattle.processor.proofs.rows.Processor.heaviest_head.Goals.{then-is-head, el
 
 pub loop-row-preserved : goal.loop-row-preserved
 loop-row-preserved c =
-    let rows = c.as-slice-row-items.result.now in let i = c.loop-row.row-index in
-    elim c.if-is-head.branch [
+    let rows = c.as_slice-row-items.result.now in let i = c.loop-row.row-index in
+    elim c.if-is_head.branch [
       | then-is-head w ↦ ap (λ held. heaviest held (drop (i + 1) rows)) (w.held-is ∙ w.over-held.ensures)
-          ∙ sym (head_step rows i c.row-item.result c.loop-row-test.true c.row-item.is c.loop-row.held true (sym w.if-is-head.ensures))
+          ∙ sym (head_step rows i c.row-item.result c.loop-row-test.true c.row-item.is c.loop-row.held true (sym w.if-is_head.ensures))
           ∙ c.loop-row.invariant
       | else-is-head w ↦ ap (λ held. heaviest held (drop (i + 1) rows)) w.held-is
-          ∙ sym (head_step rows i c.row-item.result c.loop-row-test.true c.row-item.is c.loop-row.held false (sym w.if-is-head.ensures))
+          ∙ sym (head_step rows i c.row-item.result c.loop-row-test.true c.row-item.is c.loop-row.held false (sym w.if-is_head.ensures))
           ∙ c.loop-row.invariant
     ]
 
 pub returns : goal.returns
 returns c =
-    sym (at_drop_all (heaviest c.loop-row.held) c.as-slice-row-items.result.now c.loop-row.row-index c.loop-row-test.false)
-    ∙ c.loop-row.invariant ∙ ap (heaviest None) c.as-slice-row-items.ensures.value
+    sym (at_drop_all (heaviest c.loop-row.held) c.as_slice-row-items.result.now c.loop-row.row-index c.loop-row-test.false)
+    ∙ c.loop-row.invariant ∙ ap (heaviest None) c.as_slice-row-items.ensures.value

@@ -13,13 +13,13 @@ pub loop-i-preserved : goal.loop-i-preserved
 loop-i-preserved c =
     let key = c.args.key in let xs = rows_of c.args.self.now in let x = c.index.result.now in
     let within : c.loop-i.i < length (rows_of c.loop-i.self) = omega arith in
-    elim c.if-not-is-of.branch [
-      | then-not-is-of w ↦ moved key xs (rows_of c.if-not-is-of.self) _ c.if-not-is-of.count (c.loop-i.count + 1) (c.loop-i.i + 1)
+    elim c.if-not-is_of.branch [
+      | then-not-is-of w ↦ moved key xs (rows_of c.if-not-is_of.self) _ c.if-not-is_of.count (c.loop-i.count + 1) (c.loop-i.i + 1)
           (ap rows_of w.self-is) w.count-is
-          (FiltersInPlace-more_set c.loop-i.invariant within (ap not (sym w.if-not-is-of.ensures)) c.index.ensures)
-      | else-not-is-of w ↦ moved key xs (rows_of c.if-not-is-of.self) (rows_of c.loop-i.self) c.if-not-is-of.count c.loop-i.count (c.loop-i.i + 1)
+          (FiltersInPlace-more_set c.loop-i.invariant within (ap not (sym w.if-not-is_of.ensures)) c.index.ensures)
+      | else-not-is-of w ↦ moved key xs (rows_of c.if-not-is_of.self) (rows_of c.loop-i.self) c.if-not-is_of.count c.loop-i.count (c.loop-i.i + 1)
           (ap rows_of w.self-is) w.count-is
-          (FiltersInPlace-more_no c.loop-i.invariant within (ap not (sym w.if-not-is-of.ensures)) c.index.ensures)
+          (FiltersInPlace-more_no c.loop-i.invariant within (ap not (sym w.if-not-is_of.ensures)) c.index.ensures)
     ]
 
 pub returns : goal.returns

@@ -8,7 +8,7 @@ use Rattle.processor.proofs.rows.Processor.timings.Goals as goal
 
 pub loop-row-preserved : goal.loop-row-preserved
 loop-row-preserved c =
-    let rows = c.as-slice-row-items.result.now in let i = c.loop-row.row-index in let x = c.row-item.result in
+    let rows = c.as_slice-row-items.result.now in let i = c.loop-row.row-index in let x = c.row-item.result in
     let list = held c.loop-row.list in
     let room : length list < 33
     = omega (arith, ap length c.loop-row.invariant, length-map (take i rows) (λ r. r.timing), length-take i rows) in
@@ -18,4 +18,4 @@ loop-row-preserved c =
 pub returns : goal.returns
 returns c =
     c.loop-row.invariant
-    ∙ ap timings (take_all c.loop-row.row-index c.as-slice-row-items.result.now c.loop-row-test.false ∙ c.as-slice-row-items.ensures.value)
+    ∙ ap timings (take_all c.loop-row.row-index c.as_slice-row-items.result.now c.loop-row-test.false ∙ c.as_slice-row-items.ensures.value)
