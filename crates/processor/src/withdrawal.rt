@@ -64,7 +64,7 @@ impl Processor {
 
     // Whether the judge accepts the rows here with this timing in place of a reservation's.
     pub fn fits_instead<J: Judge>(&self, judge: &J, key: u16, timing: Timing) -> bool
-        ensures { result ≡ accepts judge.now (timings (others key (rows_of self.now)) ++ (timing ∷ [])) }
+        ensures { result ≡ J.accepts judge.now (timings (others key (rows_of self.now)) ++ (timing ∷ [])) }
     {
         let list = self.asked_instead(key, timing);
         judge.judge(list.as_slice())

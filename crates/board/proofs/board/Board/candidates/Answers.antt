@@ -11,7 +11,7 @@ use Rattle.processor.proofs.Places.{read_map}
 use Rattle.processor.proofs.Ends.{pushed_room}
 use Rattle.board.proofs.Candidates.{candidates_more, candidates_pass, candidates_all}
 use Rattle.board.proofs.board.Board.candidates.Goals as goal
-use Rattle.board.proofs.board.Board.candidates.Goals.{then-open-to, else-open-to}
+use Rattle.board.proofs.board.Board.candidates.Goals.{then-open_to, else-open_to}
 
 pub loop-i-preserved : goal.loop-i-preserved
 loop-i-preserved g c =
@@ -24,7 +24,7 @@ loop-i-preserved g c =
     let in-items : i < length items = omega arith in
     let in-plan : i < length (plan b) = omega (arith, length-map items rows_of) in
     elim c.if-open_to.branch [
-      | then-open-to w ↦
+      | then-open_to w ↦
           let row : w.as_candidate.result ≡ as_candidate (i + 1) (get_or (plan b) i [])
           = w.as_candidate.ensures ∙ ap (as_candidate (i + 1)) (read_map rows_of items i w.index.result.now [] in-items w.index.ensures) in
           let grown : held c.if-open_to.found ≡ found ++ (as_candidate (i + 1) (get_or (plan b) i []) ∷ [])
@@ -32,7 +32,7 @@ loop-i-preserved g c =
             candidates_more test (plan b) i found (held c.if-open_to.found) all in-plan (sym w.if-open_to.ensures) grown c.loop-i.invariant.0,
             omega (arith, ap length grown, length_push found (as_candidate (i + 1) (get_or (plan b) i []))),
           )
-      | else-open-to w ↦
+      | else-open_to w ↦
           let same : held c.if-open_to.found ≡ found = ap held w.found-is in (
             candidates_pass test (plan b) i (held c.if-open_to.found) all in-plan (sym w.if-open_to.ensures) (ap (λ l. l ++ candidates test (i + 1) (drop i (plan b))) same ∙ c.loop-i.invariant.0),
             omega (arith, ap length same),

@@ -3,4 +3,4 @@ use Rattle.std.proofs.lemmas.List.{length-replicate}
 use Rattle.processor.proofs.few.Few.new.Goals as goal
 
 pub invariant_of-result : goal.invariant_of-result
-invariant_of-result g c = (omega arith, (length-replicate g.row.N c.args.filler, tt))
+invariant_of-result g c = record { within = omega arith; all = length-replicate g.row.N c.args.filler }

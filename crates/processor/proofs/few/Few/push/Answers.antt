@@ -8,7 +8,11 @@ pub returns-then-self : goal.returns-then-self
 returns-then-self g c =
     let s = c.args.self.now in
     let full : g.row.N ≤ length (held s) = omega (arith, length-take s.len s.items) in
-    record { room = sym (le-ltb (length (held s)) g.row.N full); after = sym (pushed_full g.row.N (held s) c.args.x full) }
+    record {
+      room = sym (le-ltb (length (held s)) g.row.N full);
+      after = sym (pushed_full g.row.N (held s) c.args.x full);
+      end = λ lt. absurd (omega (arith, full, lt));
+    }
 
 pub returns : goal.returns
 returns g c =
@@ -18,4 +22,5 @@ returns g c =
     record {
       room = sym (lt-ltb (length (held s)) g.row.N room);
       after = take_more_set s.items s.len c.args.x within ∙ sym (pushed_room g.row.N (held s) c.args.x room);
+      end = λ lt. take_more_set s.items s.len c.args.x within;
     }

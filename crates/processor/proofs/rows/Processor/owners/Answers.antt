@@ -3,7 +3,7 @@ use Rattle.std.proofs.lemmas.List.{at_drop_all}
 use Rattle.processor.specs.Keys.{owners, is_tail}
 use Rattle.processor.proofs.Steps.{step}
 use Rattle.processor.proofs.rows.Processor.owners.Goals as goal
-use Rattle.processor.proofs.rows.Processor.owners.Goals.{then-not-is-tail, else-not-is-tail}
+use Rattle.processor.proofs.rows.Processor.owners.Goals.{then-not-is_tail, else-not-is_tail}
 
 pub loop-row-preserved : goal.loop-row-preserved
 loop-row-preserved c =
@@ -14,8 +14,8 @@ loop-row-preserved c =
     let at : (b : Bool) → c.is_tail.result ≡ b → owners (drop c.loop-row.row-index rows) ≡ cond b 0 1 + rest
     = λ b e. s ∙ ap (λ (t : Bool). cond t 0 1 + rest) (sym c.is_tail.ensures ∙ e) in
     elim c.if-not-is_tail.branch [
-      | then-not-is-tail w ↦ (omega (arith, at false w.if-not-is_tail.true), omega arith)
-      | else-not-is-tail w ↦ (omega (arith, at true w.if-not-is_tail.false), omega arith)
+      | then-not-is_tail w ↦ (omega (arith, at false w.if-not-is_tail.true), omega arith)
+      | else-not-is_tail w ↦ (omega (arith, at true w.if-not-is_tail.false), omega arith)
     ]
 
 pub returns : goal.returns

@@ -6,7 +6,7 @@ use Rattle.processor.specs.Gathering.{others}
 use Rattle.processor.proofs.Ends.{pushed_room}
 use Rattle.processor.proofs.Gathering.{left_more, left_same, few_left}
 use Rattle.processor.proofs.rows.Processor.timings_without.Goals as goal
-use Rattle.processor.proofs.rows.Processor.timings_without.Goals.{then-not-is-of, else-not-is-of}
+use Rattle.processor.proofs.rows.Processor.timings_without.Goals.{then-not-is_of, else-not-is_of}
 
 pub loop-row-preserved : goal.loop-row-preserved
 loop-row-preserved c =
@@ -15,9 +15,9 @@ loop-row-preserved c =
     let room : length list < 33
     = omega (arith, ap length c.loop-row.invariant, few_left c.args.key (take i rows), length-take i rows) in
     elim c.if-not-is_of.branch [
-      | then-not-is-of w ↦ ap held w.list-is ∙ w.push.ensures.after ∙ pushed_room 33 list x.timing room ∙ ap (λ l. l ++ (x.timing ∷ [])) c.loop-row.invariant
+      | then-not-is_of w ↦ ap held w.list-is ∙ w.push.ensures.after ∙ pushed_room 33 list x.timing room ∙ ap (λ l. l ++ (x.timing ∷ [])) c.loop-row.invariant
           ∙ sym (left_more rows i x c.loop-row-test.true c.row-item.is c.args.key (sym w.if-not-is_of.ensures))
-      | else-not-is-of w ↦ ap held w.list-is ∙ c.loop-row.invariant
+      | else-not-is_of w ↦ ap held w.list-is ∙ c.loop-row.invariant
           ∙ sym (left_same rows i x c.loop-row-test.true c.row-item.is c.args.key (sym w.if-not-is_of.ensures))
     ]
 
