@@ -26,7 +26,7 @@ loop-i-preserved c =
     )
 
 pub invariant_of-result : goal.invariant_of-result
-invariant_of-result c = (omega (arith, length-take c.loop-i.placed.len c.loop-i.placed.items), tt)
+invariant_of-result c = record { some = omega (arith, length-take c.loop-i.placed.len c.loop-i.placed.items) }
 
 pub returns : goal.returns
 returns c =

@@ -16,11 +16,11 @@ loop-one-preserved g c =
     let i = c.loop-one.one_Index in
     let before = plan c.loop-one.board in
     let b = c.args.board.now in (
-      count_more (admitting g.Rank.Rank.first (g.P.Placement.ranks b.rule) (g.J.Judge.accepts b.judge) (g.J.SizingJudge.allows b.judge)) all i
+      count_more (admitting g.P.Rank.Rank.first (g.P.Placement.ranks b.rule) (g.J.Judge.accepts b.judge) (g.J.SizingJudge.allows b.judge)) all i
           c.loop-one.count _ none c.loop-one-test.true before (plan c.admit_one-count.new.board) c.admit_one-count.result inv.0
-          (subst₂ (λ j r. c.admit_one-count.result ≡ (admitting g.Rank.Rank.first (g.P.Placement.ranks r) (g.J.Judge.accepts j) (g.J.SizingJudge.allows j) before (get_or all i none)).0)
+          (subst₂ (λ j r. c.admit_one-count.result ≡ (admitting g.P.Rank.Rank.first (g.P.Placement.ranks r) (g.J.Judge.accepts j) (g.J.SizingJudge.allows j) before (get_or all i none)).0)
           inv.2 inv.3 said.value)
-          (subst₂ (λ j r. plan c.admit_one-count.new.board ≡ (admitting g.Rank.Rank.first (g.P.Placement.ranks r) (g.J.Judge.accepts j) (g.J.SizingJudge.allows j) before (get_or all i none)).1)
+          (subst₂ (λ j r. plan c.admit_one-count.new.board ≡ (admitting g.P.Rank.Rank.first (g.P.Placement.ranks r) (g.J.Judge.accepts j) (g.J.SizingJudge.allows j) before (get_or all i none)).1)
           inv.2 inv.3 said.after),
       omega (arith, inv.1, said.bound),
       said.judge ∙ inv.2,
@@ -30,5 +30,5 @@ loop-one-preserved g c =
 pub returns : goal.returns
 returns g c =
     let b = c.args.board.now in
-    count_all (admitting g.Rank.Rank.first (g.P.Placement.ranks b.rule) (g.J.Judge.accepts b.judge) (g.J.SizingJudge.allows b.judge))
+    count_all (admitting g.P.Rank.Rank.first (g.P.Placement.ranks b.rule) (g.J.Judge.accepts b.judge) (g.J.SizingJudge.allows b.judge))
     c.args.wanted.now c.loop-one.one_Index c.loop-one.count _ c.loop-one-test.false (plan c.loop-one.board) c.loop-one.invariant.0

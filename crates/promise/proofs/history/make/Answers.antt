@@ -12,13 +12,13 @@ pub returns-in-Admit : goal.returns-in-Admit
 returns-in-Admit g c =
     let b = c.args.board.now in
     let some : 1 ≤ length (plan b) = omega (arith, length-map (vec_items b.processors) rows_of, b.processors.ok.0, b.some) in
-    let first = g.Rank.Rank.first in
+    let first = g.P.Rank.Rank.first in
     let ranks = g.P.Placement.ranks b.rule in
     let accepts = g.J.Judge.accepts b.judge in
     let allows = g.J.SizingJudge.allows b.judge in
     record {
       derived = subst (λ call. Derived (meant first ranks accepts allows) (plan b) call c.admit.result (plan c.admit.new.board)) (sym c.in-Admit.is)
-          (admits_tells first ranks accepts allows (plan b) c.in-Admit.key g.met.Rank.Rank.chain g.met.Rank.Rank.total (g.met.J.SizingJudge.capped b.judge) some
+          (admits_tells first ranks accepts allows (plan b) c.in-Admit.key g.met.P.Rank.Rank.chain g.met.P.Rank.Rank.total (g.met.J.SizingJudge.capped b.judge) some
           c.in-Admit.budget c.in-Admit.deadline c.in-Admit.period c.admit.result (plan c.admit.new.board) c.admit.ensures.answer c.admit.ensures.after);
       judge = c.admit.ensures.judge;
       rule = c.admit.ensures.rule;
@@ -28,7 +28,7 @@ pub returns-in-Withdraw : goal.returns-in-Withdraw
 returns-in-Withdraw g c =
     let b = c.args.board.now in
     record {
-      derived = subst (λ call. Derived (meant g.Rank.Rank.first (g.P.Placement.ranks b.rule) (g.J.Judge.accepts b.judge) (g.J.SizingJudge.allows b.judge)) (plan b) call (Answer.Withdrawn c.withdraw.result) (plan c.withdraw.new.self))
+      derived = subst (λ call. Derived (meant g.P.Rank.Rank.first (g.P.Placement.ranks b.rule) (g.J.Judge.accepts b.judge) (g.J.SizingJudge.allows b.judge)) (plan b) call (Answer.Withdrawn c.withdraw.result) (plan c.withdraw.new.self))
           (sym c.in-Withdraw.is) c.withdraw.ensures.rules;
       judge = c.withdraw.ensures.judge;
       rule = c.withdraw.ensures.rule;
@@ -38,7 +38,7 @@ pub returns-in-Load : goal.returns-in-Load
 returns-in-Load g c =
     let b = c.args.board.now in
     record {
-      derived = subst (λ call. Derived (meant g.Rank.Rank.first (g.P.Placement.ranks b.rule) (g.J.Judge.accepts b.judge) (g.J.SizingJudge.allows b.judge)) (plan b) call (Answer.Loaded c.load.result) (plan c.load.new.board))
+      derived = subst (λ call. Derived (meant g.P.Rank.Rank.first (g.P.Placement.ranks b.rule) (g.J.Judge.accepts b.judge) (g.J.SizingJudge.allows b.judge)) (plan b) call (Answer.Loaded c.load.result) (plan c.load.new.board))
           (sym c.in-Load.is) (c.load.ensures.rules, c.load.ensures.loaded);
       judge = c.load.ensures.judge;
       rule = c.load.ensures.rule;

@@ -21,7 +21,7 @@ loop-i-preserved g c =
           let h = w.gather_at-key.ensures in
           let m = visit_more (accepts b.judge) i visited (plan now) (plan next) c.if-visited-i.key all keys (held c.push.new.self) true
           c.loop-i-test.true w.if-visited-i.true
-          (w.key_is ∙ h.key ∙ ap (λ j. (gather (accepts j) i (plan now)).0) c.loop-i.invariant.4)
+          (w.key-is ∙ h.key ∙ ap (λ j. (gather (accepts j) i (plan now)).0) c.loop-i.invariant.4)
           (ap plan w.self-is ∙ h.after ∙ ap (λ j. (gather (accepts j) i (plan now)).1) c.loop-i.invariant.4)
           more c.loop-i.invariant.0 c.loop-i.invariant.1 in (
             m.0,
@@ -33,7 +33,7 @@ loop-i-preserved g c =
           )
       | else-visited-i w ↦
           let m = visit_more (accepts b.judge) i visited (plan now) (plan next) c.if-visited-i.key all keys (held c.push.new.self) false
-          c.loop-i-test.true w.if-visited-i.false w.key_is (ap plan w.self-is) more c.loop-i.invariant.0 c.loop-i.invariant.1 in (
+          c.loop-i-test.true w.if-visited-i.false w.key-is (ap plan w.self-is) more c.loop-i.invariant.0 c.loop-i.invariant.1 in (
             m.0,
             m.1,
             long,

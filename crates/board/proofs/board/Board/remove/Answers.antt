@@ -10,7 +10,7 @@ use Rattle.board.proofs.board.Board.remove.Goals as goal
 
 pub loop-processor-preserved : goal.loop-processor-preserved
 loop-processor-preserved g c =
-    let key = c.args.key in let ps = c.deref-mut-processor-items.result.now in
+    let key = c.args.key in let ps = c.deref_mut-processor-items.result.now in
     let items = c.loop-processor.processor-items in let i = c.loop-processor.processor-index in let x = c.processor-item.result in
     map-set rows_of items i c.remove.new.self
     ∙ ap (set (map rows_of items) i) (c.remove.ensures ∙ ap (λ y. others key (rows_of y)) (sym c.processor-item.is))
@@ -19,12 +19,12 @@ loop-processor-preserved g c =
 
 pub returns : goal.returns
 returns g c =
-    let key = c.args.key in let ps = c.deref-mut-processor-items.result.now in
+    let key = c.args.key in let ps = c.deref_mut-processor-items.result.now in
     record {
       after = ap (map rows_of) (with_items_is c.args.self.now.processors c.loop-processor.processor-items (omega arith))
           ∙ c.loop-processor.invariant
           ∙ map_over_all (others key) (map rows_of ps) c.loop-processor.processor-index (omega (arith, length-map ps rows_of))
-          ∙ ap (λ l. without key (map rows_of l)) c.deref-mut-processor-items.ensures.value;
+          ∙ ap (λ l. without key (map rows_of l)) c.deref_mut-processor-items.ensures.value;
       count = refl;
       judge = refl;
       rule = refl;

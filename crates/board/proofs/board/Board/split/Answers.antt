@@ -16,7 +16,7 @@ pub returns-in_default : goal.returns-in_default
 returns-in_default g c =
     let b = c.args.self.now in
     let pl : List Cut → Timing → Option ℕ
-    = place g.Rank.Rank.first (g.P.Placement.ranks b.rule) (g.J.Judge.accepts b.judge) (plan b) in
+    = place g.P.Rank.Rank.first (g.P.Placement.ranks b.rule) (g.J.Judge.accepts b.judge) (plan b) in
     let nx : List Cut → Timing → Option (Cut × Timing) = next_cut (g.J.SizingJudge.allows b.judge) (plan b) in
     let m : ℕ = length (plan b) in
     let none : nx (held c.loop.cuts) c.loop.head ≡ None
@@ -29,7 +29,7 @@ pub returns : goal.returns
 returns g c =
     let b = c.args.self.now in
     let pl : List Cut → Timing → Option ℕ
-    = place g.Rank.Rank.first (g.P.Placement.ranks b.rule) (g.J.Judge.accepts b.judge) (plan b) in
+    = place g.P.Rank.Rank.first (g.P.Placement.ranks b.rule) (g.J.Judge.accepts b.judge) (plan b) in
     let nx : List Cut → Timing → Option (Cut × Timing) = next_cut (g.J.SizingJudge.allows b.judge) (plan b) in
     let over : length (plan b) - c.loop.counter ≡ 0 = omega (arith, length-map (vec_items b.processors) rows_of) in
     sym (ap (λ n. split c.args.key pl nx n (held c.loop.cuts) c.loop.head) over)
@@ -50,7 +50,7 @@ pub returns-in-Some-place : goal.returns-in-Some-place
 returns-in-Some-place g c =
     let b = c.args.self.now in
     let pl : List Cut → Timing → Option ℕ
-    = place g.Rank.Rank.first (g.P.Placement.ranks b.rule) (g.J.Judge.accepts b.judge) (plan b) in
+    = place g.P.Rank.Rank.first (g.P.Placement.ranks b.rule) (g.J.Judge.accepts b.judge) (plan b) in
     let nx : List Cut → Timing → Option (Cut × Timing) = next_cut (g.J.SizingJudge.allows b.judge) (plan b) in
     let m : ℕ = length (plan b) in
     let s : Cut × Timing = c.in-Some.next in
@@ -70,7 +70,7 @@ pub loop-preserved : goal.loop-preserved
 loop-preserved g c =
     let b = c.args.self.now in
     let pl : List Cut → Timing → Option ℕ
-    = place g.Rank.Rank.first (g.P.Placement.ranks b.rule) (g.J.Judge.accepts b.judge) (plan b) in
+    = place g.P.Rank.Rank.first (g.P.Placement.ranks b.rule) (g.J.Judge.accepts b.judge) (plan b) in
     let nx : List Cut → Timing → Option (Cut × Timing) = next_cut (g.J.SizingJudge.allows b.judge) (plan b) in
     let m : ℕ = length (plan b) in
     let s : Cut × Timing = c.in-Some.next in

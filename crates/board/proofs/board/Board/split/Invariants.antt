@@ -10,11 +10,11 @@ use Rattle.board.proofs.board.Board.split.Given as goal
 abbrev pub invariant-loop : goal.invariant-loop
 invariant-loop g l =
     (split l.key
-    (place g.Rank.Rank.first (g.P.Placement.ranks l.self.rule) (g.J.Judge.accepts l.self.judge) (plan l.self))
+    (place g.P.Rank.Rank.first (g.P.Placement.ranks l.self.rule) (g.J.Judge.accepts l.self.judge) (plan l.self))
     (next_cut (g.J.SizingJudge.allows l.self.judge) (plan l.self))
     (length (plan l.self) - l.counter) (held l.cuts) l.head
     ≡ split l.key
-    (place g.Rank.Rank.first (g.P.Placement.ranks l.self.rule) (g.J.Judge.accepts l.self.judge) (plan l.self))
+    (place g.P.Rank.Rank.first (g.P.Placement.ranks l.self.rule) (g.J.Judge.accepts l.self.judge) (plan l.self))
     (next_cut (g.J.SizingJudge.allows l.self.judge) (plan l.self))
     (length (plan l.self) - 1) (held l.initial.cuts) l.initial.head)
     × (length (held l.cuts) + 1 ≡ l.counter)
