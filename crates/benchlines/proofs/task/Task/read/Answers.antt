@@ -1,9 +1,9 @@
-use Rattle.std.proofs.Common.{◌≡◌, length, rules}
-use Rattle.lines.specs.Fields.{fields}
-use Rattle.benchlines.proofs.Counts.{rows_counted}
+use Rattle.benchlines.proofs.Counts.{task_last}
 use Rattle.benchlines.proofs.task.Task.read.Goals as goal
 
 pub returns-clause-task : goal.returns-clause-task
 returns-clause-task c =
-    let rows = rows_counted c.field-word.result.now (length (fields c.args.line.now)) c.count_fields.result c.count_fields.ensures in
-    ?
+    task_last c.args.line.now c.field-word.result.now c.count_fields.result c.read_rows.result c.if-line-gt-LONGEST_LINE.false
+    (c.if-not-has_field.ensures) c.field-word.ensures c.count_fields.ensures
+    (c.if-same.ensures tt) (c.if-same-2.ensures tt) (c.if-same-3.ensures tt) (c.if-same-4.ensures tt) (c.if-same-5.ensures tt)
+    c.read_rows.ensures.task
