@@ -1,5 +1,6 @@
 -- Fields are counted up to a number that no line may have: the rows are the same. Assumes nothing.
 use Rattle.std.proofs.Common.{◌≡◌, ℕ, length, le-ltb, suc, ◌+◌, ◌-◌, ◌/◌, ◌%◌, ◌<◌, ◌≤◌, min, true, false, ltb, cond, ◌&&◌, eqb, leb, List, [], get_or, Ok, Err, codes, Result, sym, refl, ap, ◌∙◌, arith}
+use Rattle.std.proofs.lemmas.Bool.{cond-true, cond-false}
 use native.Mathlib.Decide.{dec_le}
 use borrow.Author.Tests.{lt-leb}
 use Rattle.std.specs.Str.{bytes_eq}
@@ -8,7 +9,7 @@ use Rattle.lines.specs.Fields.{fields}
 use Rattle.lines.specs.Numbers.{number_of, then_do}
 use Rattle.benchlines.specs.Numbers.{number_at, checked}
 use Rattle.benchlines.specs.declared.task.Task.{Task}
-use Rattle.benchlines.specs.Tasks.{rows_after, rows_task, task_of}
+use Rattle.benchlines.specs.Tasks.{rows_after, rows_task, task_among, task_of}
 
 many : (first n : ℕ) → first ≤ 3 → 127 ≤ n → rows_after first n ≡ Err LineFault.Fields
 many first n f h = rw (lt-leb ((n - first) / 3) 40 (omega arith)) refl
@@ -25,14 +26,21 @@ pub rows_counted : (word : List ℕ) (n count : ℕ) → count ≡ min 127 n →
 rows_counted word n count e =
     ap (rows_task word) e ∙ simp (few 1 n (omega arith), few 3 n (omega arith))
 
--- a line whose word is none of those with a fixed number of fields asks for rows
+-- a word that is none of those with a fixed number of fields asks for rows
+among : (fs : List (List ℕ)) (word : List ℕ) → word ≡ get_or fs 0 [] →
+    false ≡ bytes_eq word (codes "admit") → false ≡ bytes_eq word (codes "leave") → false ≡ bytes_eq word (codes "load") →
+    false ≡ bytes_eq word (codes "save") → false ≡ bytes_eq word (codes "look") → task_among fs ≡ rows_task word (length fs)
+among fs word is a b c d e = let first = sym is in rw (first, sym a, sym b, sym c, sym d, sym e) refl
+
 pub task_last : (line word : List ℕ) (count : ℕ) (task : Result Task LineFault) → length line ≤ 12000 → true ≡ ltb 0 (length (fields line)) →
     word ≡ get_or (fields line) 0 [] → count ≡ min 127 (length (fields line)) →
     false ≡ bytes_eq word (codes "admit") → false ≡ bytes_eq word (codes "leave") → false ≡ bytes_eq word (codes "load") →
     false ≡ bytes_eq word (codes "save") → false ≡ bytes_eq word (codes "look") → task ≡ rows_task word count → task ≡ task_of line
 task_last line word count task short some is number a b c d e rows =
-    let first = sym is in
-    rw (le-ltb 12000 (length line) short, sym some, first, sym a, sym b, sym c, sym d, sym e) (rows ∙ rows_counted word (length (fields line)) count number)
+    rows ∙ rows_counted word (length (fields line)) count number
+    ∙ sym (among (fields line) word is a b c d e)
+    ∙ sym (cond-true (ltb 0 (length (fields line))) (task_among (fields line)) (Ok Task.Blank) (sym some))
+    ∙ sym (cond-false (ltb 12000 (length line)) (Err LineFault.Long) _ (le-ltb 12000 (length line) short))
 
 step : (fs : List (List ℕ)) (place to : ℕ) → place < to →
     checked fs place (to - place) ≡ then_do (number_of (get_or fs place [])) (λ x. checked fs (place + 1) (to - (place + 1)))

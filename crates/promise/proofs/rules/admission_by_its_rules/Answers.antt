@@ -14,7 +14,7 @@ returns g c =
     let capped = g.met.J.SizingJudge.capped c.args.judge.now in
     record {
       allowed = λ plan some key b d t. admits_so first ranks accepts allows plan key chain total capped some b d t;
-      nothing-else = λ plan some key b d t answer last h.
+      nothing_else = λ plan some key b d t answer last h.
           admits_unique first ranks accepts allows plan key chain g.met.P.Rank.Rank.apart b d t
           answer (admitted first ranks accepts allows plan key b d t) last (after plan (admitted first ranks accepts allows plan key b d t))
           h (admits_so first ranks accepts allows plan key chain total capped some b d t);
