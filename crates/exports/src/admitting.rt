@@ -8,7 +8,6 @@ use crate::opening::open;
 use crate::reply::Reply;
 use board::board::Board;
 use model::judge::SizingJudge;
-use placement::best::Rank;
 use placement::rule::Placement;
 use std::alloc::Global;
 

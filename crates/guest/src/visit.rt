@@ -2,7 +2,7 @@
 ghost use Rattle.promise.specs.Promise.{Ran};
 ghost use Rattle.guest.specs.Placed.{guest_meaning};
 
-use crate::odd_first::{OddFirst, Rank};
+use crate::odd_first::OddFirst;
 use crate::same_period::SamePeriod;
 use board::setup::SetupError;
 use promise::call::Call;

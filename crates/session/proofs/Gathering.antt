@@ -1,5 +1,5 @@
 -- Going through the gathered keys and the processors together. Assumes nothing.
-use Rattle.std.proofs.Common.{◌≡◌, ℕ, ◌+◌, ◌<◌, ◌≤◌, min, ◌⊎◌, List, [], ◌∷◌, ◌++◌, map, length, get_or, drop, Ok, Result, sym, refl, ap, ◌∙◌, inl, inr, arith}
+use Rattle.std.proofs.Common.{◌≡◌, ℕ, ◌+◌, ◌-◌, ◌==◌, true, false, cond, Some, None, slice_get, ◌<◌, ◌≤◌, min, ◌⊎◌, List, [], ◌∷◌, ◌++◌, map, length, get_or, drop, Ok, Result, sym, refl, ap, ◌∙◌, inl, inr, arith}
 use native.Mathlib.Decide.{dec_le}
 use Rattle.std.proofs.lemmas.List.{at_drop_more, at_drop_all}
 use Rattle.model.specs.declared.row.Row.{Row}
@@ -8,7 +8,7 @@ use Rattle.lines.specs.Replies.{gone_line}
 use Rattle.processor.specs.declared.rows.Processor.{Processor}
 use Rattle.processor.specs.Rows.{rows_of}
 use Rattle.processor.proofs.Steps.{step_map}
-use Rattle.session.specs.Rows.{gathered_line, gathered_text}
+use Rattle.session.specs.Rows.{line_if, gathered_row, last_line, gathered_line, gathered_text}
 use Rattle.session.specs.Answered.{leave_text}
 
 pub step_both :
@@ -19,6 +19,11 @@ pub step_both :
 step_both f p keys xs i x hk hx here =
     at_drop_more (λ l. gathered_text p l (drop i (map f xs))) keys i 0 hk
     ∙ step_map f (λ l. gathered_text p (get_or keys i 0 ∷ drop (i + 1) keys) l) xs i x hx here
+
+-- a line for the row that was gathered is the line for what was gathered
+pub row_line : (p key : ℕ) (rows : List Row) → line_if p (gathered_row key rows) ≡ gathered_line p key rows
+row_line p key rows =
+    elim (key == 0) as (λ b. line_if p (cond b None (slice_get rows (length rows - 1))) ≡ cond b [] (last_line p rows)) [ true ↦ refl | false ↦ refl ]
 
 text_none : (p : ℕ) (keys : List ℕ) → gathered_text p keys [] ≡ []
 text_none p [] = refl

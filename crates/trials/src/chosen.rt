@@ -6,8 +6,8 @@ use judges::either::Either;
 use model::judge::{Judge, SizingJudge};
 use model::row::Kind;
 use model::timing::Timing;
-use placement::fewest::{Fewest, Rank};
-use placement::listed::{Listed, Rank};
+use placement::fewest::Fewest;
+use placement::listed::Listed;
 use std::test::Fail;
 
 const COARSE: Demand = Demand {

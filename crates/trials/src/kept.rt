@@ -4,7 +4,7 @@ use board::board::Board;
 use judges::demand::Demand;
 use model::judge::Judge;
 use model::row::Kind;
-use placement::best::{Best, Rank};
+use placement::best::Best;
 use std::test::Fail;
 use store::load::load;
 use store::save::save;

@@ -2,7 +2,7 @@
 use crate::asking::{admitted, board_of, looked, withdrawn};
 use judges::demand::Demand;
 use judges::density::Density;
-use placement::best::{Best, Rank};
+use placement::best::Best;
 use std::test::Fail;
 
 const DEMAND: Demand = Demand {

@@ -3,8 +3,8 @@
 use crate::asking::{admits_all, board_of, gathers, holds};
 use judges::demand::Demand;
 use model::row::Kind::{Head, Tail, Whole};
-use placement::best::{Best, Rank};
-use placement::fewest::{Fewest, Rank};
+use placement::best::Best;
+use placement::fewest::Fewest;
 use std::test::Fail;
 
 // The tail beside (6, 10, 10), for period 20: 8/20 of the processor are free, rounded down M = 7. At 20 + 7 ticks the

@@ -2,7 +2,7 @@
 // processors go first.
 use board::admission::Admission;
 use board::gathered::Gathered;
-use guest::odd_first::{OddFirst, Rank};
+use guest::odd_first::OddFirst;
 use guest::same_period::SamePeriod;
 use guest::visit::visit;
 use model::fault::{NamingFault, RequestFault};

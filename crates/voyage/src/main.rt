@@ -3,7 +3,7 @@ use board::admission::Admission;
 use board::gathered::Gathered;
 use judges::demand::Demand;
 use model::fault::{NamingFault, RequestFault};
-use placement::best::{Best, Rank};
+use placement::best::Best;
 use promise::call::{Answer, Call};
 use promise::history::run;
 use std::io;

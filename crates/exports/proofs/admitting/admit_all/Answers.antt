@@ -13,7 +13,7 @@ loop-one-preserved g c =
     let inv = c.loop-one.invariant in
     let said = c.admit_one-count.ensures in
     let all = c.args.wanted.now in
-    let i = c.loop-one.one_Index in
+    let i = c.loop-one.one-index in
     let before = plan c.loop-one.board in
     let b = c.args.board.now in (
       count_more (admitting g.P.Rank.Rank.first (g.P.Placement.ranks b.rule) (g.J.Judge.accepts b.judge) (g.J.SizingJudge.allows b.judge)) all i
@@ -31,4 +31,4 @@ pub returns : goal.returns
 returns g c =
     let b = c.args.board.now in
     count_all (admitting g.P.Rank.Rank.first (g.P.Placement.ranks b.rule) (g.J.Judge.accepts b.judge) (g.J.SizingJudge.allows b.judge))
-    c.args.wanted.now c.loop-one.one_Index c.loop-one.count _ c.loop-one-test.false (plan c.loop-one.board) c.loop-one.invariant.0
+    c.args.wanted.now c.loop-one.one-index c.loop-one.count _ c.loop-one-test.false (plan c.loop-one.board) c.loop-one.invariant.0

@@ -4,7 +4,7 @@ use Rattle.processor.specs.Rows.{rows_of}
 use Rattle.lines.specs.Replies.{Wrote}
 use Rattle.session.specs.Rows.{line_if, gathered_row, gathered_line, gathered_text}
 use Rattle.lines.proofs.Puts.{wrote_none, wrote_then}
-use Rattle.session.proofs.Gathering.{step_both, past_min, none_left}
+use Rattle.session.proofs.Gathering.{row_line, step_both, past_min, none_left}
 use Rattle.session.proofs.reply.put_gathered.Goals as goal
 
 pub loop-i-preserved : goal.loop-i-preserved
@@ -17,7 +17,8 @@ loop-i-preserved c =
     c.gathered_row-row.ensures
     ∙ (ap (gathered_row (get_or keys i 0)) c.as_slice.ensures.value
     ∙ ap (λ p. gathered_row (get_or keys i 0) (rows_of p)) (sym c.index-processors-i.is)) in
-    let line = subst (λ r. Wrote out end (line_if (i + 1) r) c.put_if-end.new.out c.put_if-end.result) row c.put_if-end.ensures.wrote in (
+    let written = subst (λ r. Wrote out end (line_if (i + 1) r) c.put_if-end.new.out c.put_if-end.result) row c.put_if-end.ensures.wrote in
+    let line = subst (λ t. Wrote out end t c.put_if-end.new.out c.put_if-end.result) (row_line (i + 1) (get_or keys i 0) (rows_of here)) written in (
       (λ then last left.
           c.loop-i.invariant.0 then last
           (subst (λ t. Wrote out end t then last) (sym more)
