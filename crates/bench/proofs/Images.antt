@@ -1,10 +1,9 @@
 -- An image of any plan of a board has room in 4,628 bytes, and a field of a line in as many as the line. Assumes nothing.
-use Rattle.std.proofs.Common.{◌≡◌, ℕ, zero, suc, ◌+◌, ◌-◌, ◌*◌, ◌/◌, ◌≤◌, Bool, true, false, cond, ◌&&◌, ltb, leb, List, [], ◌∷◌, ◌++◌, map, length, get_or, take, drop, Some, None, Ok, Err, vec_items, vec_len, Option, Result, sym, refl, ap, ◌∙◌, arith, length-append, ltb-false, le-ltb, le-leb, leb-true}
+use Rattle.std.proofs.Common.{◌≡◌, ℕ, zero, suc, ◌+◌, ◌-◌, ◌*◌, ◌/◌, ◌≤◌, Bool, true, false, cond, ◌&&◌, ltb, leb, List, [], ◌∷◌, ◌++◌, map, length, get_or, take, Some, None, Ok, Err, Result, refl, ap, ◌∙◌, arith, length-append, ltb-false, le-ltb, le-leb, leb-true}
 use Rattle.std.specs.List.{AllByRecursion as All}
 use Rattle.std.proofs.lemmas.List.{length-map, take_at}
 use Rattle.processor.specs.declared.rows.Processor.{Processor}
 use Rattle.processor.specs.Rows.{rows_of}
-use Rattle.model.specs.declared.row.Row.{Row}
 use Rattle.lines.specs.Fields.{is_space, ended, fields_after, fields}
 use Rattle.model.specs.declared.fault.LineFault.{LineFault}
 use Rattle.benchlines.specs.declared.task.Task.{Task}

@@ -1,9 +1,9 @@
 -- Reading rows one after the other. Assumes nothing.
-use Rattle.std.proofs.Common.{◌≡◌, ℕ, suc, ◌+◌, ◌-◌, ◌*◌, ◌<◌, List, [], ◌∷◌, ◌++◌, length, Some, None, Ok, Err, Result, sym, refl, ap, ◌∙◌, arith, lt-ltb}
+use Rattle.std.proofs.Common.{◌≡◌, ℕ, suc, ◌+◌, ◌-◌, ◌*◌, ◌<◌, List, [], ◌∷◌, ◌++◌, length, None, Ok, Err, Result, sym, refl, ap, ◌∙◌, arith, lt-ltb}
 use Rattle.std.proofs.lemmas.List.{append_assoc, append-nil}
 use Rattle.model.specs.declared.timing.Timing.{Timing}
 use Rattle.model.specs.declared.fault.RequestFault.{RequestFault}
-use Rattle.model.specs.Limits.{timing_fault, Timed}
+use Rattle.model.specs.Limits.{Timed}
 use Rattle.processor.specs.Few.{pushed}
 use Rattle.board.specs.Timed.{timed}
 use Rattle.board.proofs.Timed.{timed_ok}

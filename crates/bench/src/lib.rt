@@ -1,4 +1,6 @@
 // The workbench's line call: stored plans, rows, judgements and allowances beside admissions, each asked for by a line of text.
+#![tactic(auto)]
+
 mod admitting;
 pub mod answer;
 mod asking;

@@ -1,5 +1,5 @@
 -- Fields are counted up to a number that no line may have: the rows are the same. Assumes nothing.
-use Rattle.std.proofs.Common.{◌≡◌, ℕ, length, le-ltb, suc, ◌+◌, ◌-◌, ◌/◌, ◌%◌, ◌<◌, ◌≤◌, min, true, false, ltb, cond, ◌&&◌, eqb, leb, List, [], get_or, Ok, Err, codes, Result, sym, refl, ap, ◌∙◌, arith}
+use Rattle.std.proofs.Common.{◌≡◌, ℕ, length, le-ltb, suc, ◌+◌, ◌-◌, ◌/◌, ◌<◌, ◌≤◌, min, true, false, ltb, List, [], get_or, Ok, Err, codes, Result, sym, refl, ap, ◌∙◌, arith}
 use Rattle.std.proofs.lemmas.Bool.{cond-true, cond-false}
 use native.Mathlib.Decide.{dec_le}
 use borrow.Author.Tests.{lt-leb}
@@ -7,7 +7,7 @@ use Rattle.std.specs.Str.{bytes_eq}
 use Rattle.model.specs.declared.fault.LineFault.{LineFault}
 use Rattle.lines.specs.Fields.{fields}
 use Rattle.lines.specs.Numbers.{number_of, then_do}
-use Rattle.benchlines.specs.Numbers.{number_at, checked}
+use Rattle.benchlines.specs.Numbers.{checked}
 use Rattle.benchlines.specs.declared.task.Task.{Task}
 use Rattle.benchlines.specs.Tasks.{rows_after, rows_task, task_among, task_of}
 

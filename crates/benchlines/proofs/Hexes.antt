@@ -1,7 +1,7 @@
 -- Steps through digits and bytes. Assumes nothing.
-use Rattle.std.proofs.Common.{◌≡◌, ℕ, ◌+◌, ◌*◌, ◌/◌, ◌%◌, ◌<◌, ◌≤◌, Bool, true, false, ◌&&◌, List, [], ◌∷◌, ◌++◌, length, get_or, take, drop, set, is_some, sym, refl, ap, ◌∙◌, arith}
+use Rattle.std.proofs.Common.{◌≡◌, ℕ, ◌+◌, ◌*◌, ◌/◌, ◌%◌, ◌<◌, true, false, ◌&&◌, List, [], ◌∷◌, ◌++◌, length, get_or, take, drop, set, is_some, sym, refl, ap, ◌∙◌, arith}
 use Rattle.std.specs.List.{flat_map}
-use Rattle.std.proofs.lemmas.List.{at_drop_more, at_drop_all, take_more, flat_map_more, append_assoc, append-nil, take_more_set, take-append-drop, drop-set-lt, drop-drop}
+use Rattle.std.proofs.lemmas.List.{at_drop_more, take_more, flat_map_more, append_assoc, append-nil, take_more_set, take-append-drop, drop-set-lt, drop-drop}
 use Rattle.benchlines.specs.Hex.{digit_value, all_digits, byte_of, bytes_of, hex_digit, digits_of}
 
 pub digits_no : (l : List ℕ) (i : ℕ) → i < length l → is_some (digit_value (get_or l i 0)) ≡ false → all_digits (drop i l) ≡ false

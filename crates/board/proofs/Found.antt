@@ -14,7 +14,7 @@ use Rattle.board.specs.declared.admission.Placed.{Placed}
 use Rattle.processor.specs.Keys.{has_tail}
 use Rattle.processor.specs.Taking.{free, takes, offers, as_candidate}
 use Rattle.board.specs.Place.{used, open_to, candidates, number_of, place}
-use Rattle.board.specs.Tail.{offer_at, longer, longest, tail_search, cut_on, cut_off, next_cut}
+use Rattle.board.specs.Tail.{offer_at, longer, longest, tail_search, cut_on, next_cut}
 use Rattle.board.specs.Timed.{timed}
 use Rattle.board.specs.Split.{placed, split_rows, or_more, after_cut, split}
 use Rattle.board.specs.declared.admission.Admission.{Admission}

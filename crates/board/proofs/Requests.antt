@@ -3,7 +3,7 @@ use Rattle.std.proofs.Common.{◌≡◌, ℕ, ◌≤◌, true, false, List, None
 use Rattle.model.specs.declared.row.Row.{Row}
 use Rattle.model.specs.Limits.{timing_fault}
 use Rattle.board.specs.Keys.{stands}
-use Rattle.board.specs.Request.{bad_key, has_room, standing_fault, or_fault, request_fault}
+use Rattle.board.specs.Request.{has_room, request_fault}
 
 pub no_fault :
     (key c d t : ℕ) (plan : List (List Row)) → 1 ≤ key → key ≤ 65535 → timing_fault c d t ≡ None →

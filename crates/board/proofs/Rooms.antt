@@ -1,16 +1,15 @@
 -- Rows that go to different processors with a free row find room, one after the other. Assumes nothing.
-use Rattle.std.proofs.Common.{◌≡◌, ℕ, suc, ◌+◌, ◌-◌, ◌<◌, ◌≤◌, Bool, true, false, ◌||◌, eqb, ◌≢◌, List, [], ◌∷◌, ◌++◌, reverse, length, get_or, set, sym, refl, ap, ◌∙◌, subst, arith}
+use Rattle.std.proofs.Common.{◌≡◌, ℕ, ◌+◌, ◌-◌, ◌<◌, ◌≤◌, Bool, true, false, ◌||◌, eqb, ◌≢◌, List, [], ◌∷◌, ◌++◌, reverse, length, get_or, sym, refl, ap, ◌∙◌, subst, arith}
 use borrow.Author.Tests.{eqb-false}
 use Rattle.std.proofs.lemmas.List.{length-set, get_or-set_other, reverse-append}
 use Rattle.model.specs.declared.row.Row.{Row}
-use Rattle.model.specs.declared.row.Kind.{Kind}
 use Rattle.model.specs.declared.timing.Timing.{Timing}
 use Rattle.board.specs.declared.cut.Cut.{Cut}
 use Rattle.board.specs.declared.admission.Placed.{Placed}
 use Rattle.processor.specs.Any.{any}
 use Rattle.board.specs.Plan.{append}
 use Rattle.board.specs.Place.{used}
-use Rattle.board.specs.Split.{placed, tails, split_rows}
+use Rattle.board.specs.Split.{tails, split_rows}
 use Rattle.board.specs.Admit.{Room}
 
 -- processor p has a free row

@@ -1,5 +1,5 @@
 -- What set-up answers. Assumes nothing.
-use Rattle.std.specs.Prelude.{◌≡◌, ℕ, Bool, true, false, ◌||◌, List, [], replicate, Ok, Err, Result, nat_lt}
+use Rattle.std.specs.Prelude.{◌≡◌, ℕ, Bool, true, false, ◌||◌, [], replicate, Ok, Err, Result, nat_lt}
 use Rattle.model.specs.declared.fault.SetupFault.{SetupFault}
 use Rattle.board.specs.declared.board.Board.{Board}
 use Rattle.board.specs.declared.setup.SetupError.{SetupError}

@@ -1,4 +1,6 @@
 // The board: processors that hold rows, and the calls that an admission service makes on them.
+#![tactic(auto)]
+
 pub mod admission;
 pub mod admit;
 pub mod board;

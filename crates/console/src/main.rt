@@ -1,4 +1,6 @@
 // The console: keeps one board over standard input and answers each line on standard output.
+#![tactic(auto)]
+
 use session::driver::serve;
 use std::io;
 

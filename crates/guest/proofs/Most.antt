@@ -1,11 +1,11 @@
 -- Beside any timing the same-period judge takes no tail. Assumes nothing.
-use Rattle.std.proofs.Common.{◌≡◌, ℕ, ◌+◌, ◌*◌, ◌<◌, ◌≤◌, true, false, leb, List, [], ◌∷◌, ◌++◌, ap, inl, inr, mul-le-mul_right, mul_comm, arith}
+use Rattle.std.proofs.Common.{◌≡◌, ℕ, ◌+◌, ◌*◌, ◌<◌, ◌≤◌, true, false, List, [], ◌∷◌, ◌++◌, ap, inl, inr, mul-le-mul_right, mul_comm, arith}
 use native.Mathlib.Nat.{le_of_mul-le-mul_left}
 use Rattle.std.proofs.lemmas.Bool.{cases_Bool, cases_lt, and_parts, leb-true}
 use Rattle.model.specs.declared.timing.Timing.{Timing}
 use Rattle.model.specs.Share.{density, densities}
 use Rattle.model.proofs.Ceiling.{ceiling_reaches}
-use Rattle.guest.specs.Together.{budgets, in_step, all_in_step, share_period, together, guest_yes}
+use Rattle.guest.specs.Together.{budgets, in_step, all_in_step, share_period, guest_yes}
 use Rattle.guest.specs.Lawful.{in_step_parts, yes_parts}
 
 -- a tail takes up the whole scale, and whatever else stands there some of it

@@ -1,4 +1,6 @@
 // The judges: density, demand, and either of any two.
+#![tactic(auto)]
+
 mod allowance;
 mod curve;
 pub mod demand;

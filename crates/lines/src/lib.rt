@@ -1,4 +1,6 @@
 // The console's lines and replies: what a line asks, why it is refused, and the bytes of an answer. Needs no board.
+#![tactic(auto)]
+
 pub mod command;
 pub mod examples;
 pub mod feeding;

@@ -1,5 +1,5 @@
 -- A quotient rounded up is the least number whose product reaches the dividend. Assumes nothing.
-use Rattle.std.proofs.Common.{◌≡◌, ℕ, suc, ◌+◌, ◌-◌, ◌*◌, ◌/◌, ◌<◌, ◌≤◌, div-lt_iff_lt-mul, add-mul, div-mul-le_self, arith}
+use Rattle.std.proofs.Common.{ℕ, ◌+◌, ◌-◌, ◌*◌, ◌<◌, ◌≤◌, div-lt_iff_lt-mul, add-mul, div-mul-le_self, arith}
 use native.Mathlib.Nat.{lt-div-mul-add}
 use Rattle.model.specs.Share.{ceiling}
 

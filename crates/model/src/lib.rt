@@ -1,4 +1,6 @@
 // What is reserved: timings, rows, their shares and demand, what a judge is, and the refusals.
+#![tactic(auto)]
+
 pub mod fault;
 pub mod judge;
 pub mod limits;

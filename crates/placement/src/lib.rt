@@ -1,4 +1,6 @@
 // Which of several processors a row goes to: ranks and their order, rules that rank, and the choice among candidates.
+#![tactic(auto)]
+
 pub mod best;
 pub mod candidate;
 pub mod fewest;

@@ -1,4 +1,6 @@
 // One processor: its rows, what it answers and what it takes.
+#![tactic(auto)]
+
 pub mod adding;
 pub mod asking;
 pub mod few;

@@ -1,6 +1,6 @@
 -- What admission computes is what its rules allow, for a judge whose allowance keeps the cap and an order that keeps its laws.
 -- Assumes nothing.
-use Rattle.std.proofs.Common.{◌≡◌, ℕ, zero, suc, ◌+◌, ◌-◌, ◌<◌, ◌≤◌, Bool, true, false, cond, eqb, List, [], ◌∷◌, ◌++◌, length, ℤ, Some, None, Ok, Err, Option, Result, sym, refl, ap, ◌∙◌, subst, arith}
+use Rattle.std.proofs.Common.{◌≡◌, ℕ, zero, suc, ◌+◌, ◌-◌, ◌<◌, ◌≤◌, Bool, true, false, cond, eqb, List, [], ◌∷◌, ◌++◌, length, ℤ, Some, None, Option, Result, sym, refl, ap, ◌∙◌, subst, arith}
 use native.Mathlib.Decide.{dec_le, dec_lt}
 use borrow.Author.Tests.{eqb-false}
 use Rattle.model.specs.Row.{timings}
@@ -12,12 +12,12 @@ use Rattle.board.specs.declared.cut.Cut.{Cut}
 use Rattle.board.specs.declared.admission.Placed.{Placed}
 use Rattle.board.specs.Place.{used, place}
 use Rattle.board.specs.Timed.{timed_by, timed}
-use Rattle.board.specs.Tail.{tail_search, cut_on, cut_off, next_cut}
+use Rattle.board.specs.Tail.{tail_search, cut_on, next_cut}
 use Rattle.board.specs.Request.{request_fault}
 use Rattle.board.specs.Split.{placed, split_rows, or_more, after_cut, split, split_up}
-use Rattle.board.specs.Admit.{decided, found_place, from_timing, unless_fault, admitted, written, after}
-use Rattle.promise.specs.Choosing.{rows_at, Vacant, Takes, FirstTaker, Taken, Asked, LongestTail, NoTail}
-use Rattle.promise.specs.Admits.{Applies, Newcomer, CutOff, Sets, Splits, ended, headed, further, Admits}
+use Rattle.board.specs.Admit.{decided, found_place, from_timing, unless_fault, admitted, after}
+use Rattle.promise.specs.Choosing.{rows_at, Vacant, Takes, Taken, LongestTail, NoTail}
+use Rattle.promise.specs.Admits.{Newcomer, Sets, Splits, ended, headed, further, Admits}
 use Rattle.board.proofs.Timed.{made}
 use Rattle.board.proofs.Tails.{cut_made}
 use Rattle.promise.proofs.Choosing.{place_taken}

@@ -1,5 +1,5 @@
 -- An admission keeps what every call keeps. Assumes nothing.
-use Rattle.std.proofs.Common.{◌≡◌, ℕ, suc, ◌+◌, ◌-◌, ◌<◌, ◌≤◌, Bool, true, false, ◌||◌, eqb, ◌⊎◌, List, [], ◌∷◌, ◌++◌, map, length, Some, None, Ok, Err, sym, refl, ap, ◌∙◌, subst, subst₂, inl, inr, ⊎_elim, add-zero, arith, eq-eqb, eqb-true}
+use Rattle.std.proofs.Common.{◌≡◌, ℕ, ◌-◌, ◌<◌, ◌≤◌, Bool, true, false, ◌||◌, eqb, ◌⊎◌, List, [], ◌∷◌, ◌++◌, Ok, sym, refl, ap, ◌∙◌, subst, subst₂, inl, inr, ⊎_elim, add-zero, arith, eq-eqb, eqb-true}
 use Rattle.std.specs.List.{ContainsAt as Has, AllByRecursion as All}
 use Rattle.std.proofs.lemmas.List.{append-nil, map-append}
 use Rattle.std.proofs.lemmas.List.Elements.{filter-append}
@@ -13,7 +13,7 @@ use Rattle.runs.specs.Plan.{Reservation}
 use Rattle.promise.specs.Layout.{Layout, layout, layout_rows, Distinct}
 use Rattle.promise.specs.Meaning.{Meaning, Lawful}
 use Rattle.promise.specs.Plan.{Plan, On, rows_at, rows_on, of_key, Stands}
-use Rattle.promise.specs.Kept.{processors, Lies, ComesTo, Owned, Kept, reserved}
+use Rattle.promise.specs.Kept.{processors, Lies, Owned, Kept, reserved}
 use Rattle.promise.proofs.Lists.{has_none, has_cases, has_here, has_there, all_one, all_from_has, has_of_kept, has_of_map, of_key_none, of_key_all, rows_on_all, rows_on_cases}
 use Rattle.promise.proofs.Rows.{length_adds, rows_adds}
 use Rattle.promise.proofs.Standing.{standing_adds, layout_one}

@@ -1,5 +1,5 @@
 -- The choice of a processor is the one that the rules allow. Assumes nothing.
-use Rattle.std.proofs.Common.{◌≡◌, ℕ, zero, suc, ◌+◌, ◌-◌, ◌<◌, ◌≤◌, Bool, true, false, cond, not, ◌&&◌, ltb, ◌≢◌, ◌⊎◌, List, [], ◌∷◌, ◌++◌, length, get_or, ℤ, Some, None, Option, sym, refl, ap, ◌∙◌, subst, inl, inr, arith, ltb-true, lt-ltb}
+use Rattle.std.proofs.Common.{◌≡◌, ℕ, zero, suc, ◌+◌, ◌-◌, ◌<◌, ◌≤◌, Bool, true, false, cond, not, ◌&&◌, ◌≢◌, ◌⊎◌, List, [], ◌∷◌, ◌++◌, length, get_or, ℤ, Some, None, Option, sym, refl, ap, ◌∙◌, subst, inl, inr, arith, ltb-true, lt-ltb}
 use Rattle.std.specs.List.{AllByRecursion as All}
 use Rattle.std.proofs.ByRecursion.{All-weaker, All-append}
 use Rattle.model.specs.Row.{timings}
@@ -11,8 +11,8 @@ use Rattle.placement.proofs.Foremost.{chosen_first}
 use Rattle.board.specs.declared.cut.Cut.{Cut}
 use Rattle.processor.specs.Taking.{free, takes, as_candidate}
 use Rattle.board.specs.Place.{used, open_to, candidates, number_of, place}
-use Rattle.promise.specs.Choosing.{rows_at, Vacant, Takes, rank_at, FirstTaker, Taken}
-use Rattle.board.proofs.Found.{and_left, and_right, not_so, Passes, passes_later, candidates_pass}
+use Rattle.promise.specs.Choosing.{rows_at, Takes, rank_at, Taken}
+use Rattle.board.proofs.Found.{and_left, and_right, not_so, Passes, candidates_pass}
 
 -- candidates stand in rising number, from n on
 from_on : (test : ℕ → List Row → Bool) (n : ℕ) (plan : List (List Row)) → All (λ c. n ≤ c.processor) (candidates test n plan)

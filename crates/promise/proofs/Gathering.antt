@@ -1,29 +1,28 @@
 -- A withdrawal keeps what every call keeps. Assumes nothing.
-use Rattle.std.proofs.Common.{◌≡◌, ℕ, zero, suc, ◌+◌, ◌-◌, ◌<◌, ◌≤◌, Bool, true, false, cond, not, eqb, ◌⊎◌, List, [], ◌∷◌, ◌++◌, map, length, get_or, Some, None, Ok, Err, filter, Result, sym, refl, ap, ◌∙◌, subst, inl, inr, ⊎_elim, add-zero, arith, length-append, ne_eqb}
+use Rattle.std.proofs.Common.{◌≡◌, ℕ, suc, ◌+◌, ◌-◌, ◌<◌, ◌≤◌, Bool, true, cond, not, eqb, List, [], ◌∷◌, ◌++◌, length, get_or, Ok, sym, refl, ap, ◌∙◌, subst, ⊎_elim, add-zero, arith, ne_eqb}
 use native.Mathlib.Decide.{ℕ_discrete}
 use lib.ListN.{length-map}
-use Rattle.std.specs.List.{ContainsAt as Has, AllByRecursion as All}
+use Rattle.std.specs.List.{ContainsAt as Has}
 use Rattle.std.proofs.ByRecursion.{has_append_right}
 use Rattle.model.specs.declared.timing.Timing.{Timing}
 use Rattle.model.specs.declared.row.Kind.{Kind}
 use Rattle.model.specs.declared.row.Row.{Row}
-use Rattle.model.specs.declared.fault.NamingFault.{NamingFault}
 use Rattle.model.specs.Row.{timings}
 use Rattle.runs.specs.Plan.{Reservation, sum_at, total, span, lasting}
 use Rattle.processor.specs.Keys.{is_tail, has_key}
 use Rattle.board.specs.Keys.{reservations}
 use Rattle.processor.specs.Gathering.{is_head, due, sum_on, others}
 use Rattle.board.specs.Withdraw.{sum_over, without, regrouped}
-use Rattle.processor.specs.Candidate.{Heaviest, Candidate, by_tail, by_head}
-use Rattle.board.specs.Withdraws.{WholeForm, Gathers, nobody, stays, joins, Visits, done, passed, visited, Withdraws, refused, gone}
+use Rattle.processor.specs.Candidate.{Candidate, by_tail, by_head}
+use Rattle.board.specs.Withdraws.{Gathers, nobody, stays, joins, Visits, done, passed, visited, Withdraws, refused, gone}
 use Rattle.promise.specs.Layout.{Layout, layout}
 use Rattle.promise.specs.Meaning.{Meaning, Lawful}
-use Rattle.promise.specs.Plan.{Plan, On, rows_at, add, Stands}
+use Rattle.promise.specs.Plan.{Plan, On, rows_at, add}
 use Rattle.promise.specs.Kept.{Lies, ComesTo, Owned, Kept, dropped}
 use Rattle.promise.proofs.Lists.{has_none, has_here, has_there, has_cases, all_one, has_kept, has_of_kept}
 use Rattle.promise.proofs.Rows.{length_add, rows_removed}
 use Rattle.promise.proofs.Admitting.{lies_first, kept_layout}
-use Rattle.promise.proofs.Removing.{on_back, on_forth, kept_removed, kept_same, same_key, removed_gone, standing_less}
+use Rattle.promise.proofs.Removing.{on_forth, kept_removed, kept_same, same_key, removed_gone, standing_less}
 use Rattle.promise.proofs.Totals.{lies_budget, lies_deadline}
 use Rattle.promise.proofs.Timely.{lies_tight}
 use Rattle.promise.proofs.Placing.{GoodLayout}

@@ -1,10 +1,10 @@
 -- What is promised holds along every history. Assumes nothing.
-use Rattle.std.proofs.Common.{◌≡◌, ℕ, zero, suc, ◌+◌, ◌-◌, ◌<◌, ◌≤◌, Bool, true, false, not, eqb, ltb, List, [], ◌∷◌, ◌++◌, length, get_or, replicate, ℤ, Some, None, Ok, Err, Option, Result, sym, refl, ap, ◌∙◌, subst, subst₂, inl, arith, ltb-false, ne_eqb}
+use Rattle.std.proofs.Common.{◌≡◌, ℕ, zero, suc, ◌-◌, ◌<◌, ◌≤◌, Bool, true, false, not, eqb, ltb, List, [], ◌∷◌, ◌++◌, length, get_or, replicate, ℤ, Some, None, Ok, Err, Option, Result, sym, refl, ap, ◌∙◌, subst, subst₂, inl, arith, ltb-false, ne_eqb}
 use Rattle.std.proofs.lemmas.Bool.{or_parts}
 use Rattle.std.proofs.ByRecursion.{all_kept_by}
 use Rattle.board.specs.Setup.{unfit}
 use lib.ListN.{length-replicate}
-use Rattle.std.specs.List.{ContainsAt as Has, AllByRecursion as All}
+use Rattle.std.specs.List.{AllByRecursion as All}
 use Rattle.model.specs.declared.timing.Timing.{Timing}
 use Rattle.model.specs.declared.row.Kind.{Kind}
 use Rattle.model.specs.declared.row.Row.{Row}
@@ -13,12 +13,11 @@ use Rattle.model.specs.declared.fault.NamingFault.{NamingFault}
 use Rattle.model.specs.Scale.{scale}
 use Rattle.model.specs.Row.{timings}
 use Rattle.runs.specs.Plan.{Reservation}
-use Rattle.board.specs.declared.admission.Admission.{Admission}
 use Rattle.board.specs.declared.admission.Placed.{Placed}
 use Rattle.board.specs.Keys.{reservations}
 use Rattle.board.specs.Admission.{made_rows}
-use Rattle.board.specs.Split.{placed, split_rows}
-use Rattle.board.specs.Admit.{admitted, after, written, told}
+use Rattle.board.specs.Split.{placed}
+use Rattle.board.specs.Admit.{admitted, after, told}
 use Rattle.board.specs.Withdraws.{Withdraws}
 use Rattle.board.specs.Withdraws as rules
 use Rattle.model.specs.Share.{densities}
@@ -34,9 +33,8 @@ use Rattle.promise.specs.declared.call.Answer.{Answer}
 use Rattle.promise.specs.Meaning.{Meaning, Lawful}
 use Rattle.promise.specs.Plan.{Plan, On}
 use Rattle.promise.specs.Choosing.{rows_at, Takes, FirstTaker}
-use Rattle.promise.specs.Admits.{Admits, refused, whole, split, no_place, Splits, ended, headed, further, Newcomer, Applies}
-use Rattle.promise.specs.Kept.{Kept, reserved, dropped}
-use Rattle.promise.specs.Stored.{stored_reservations}
+use Rattle.promise.specs.Admits.{Admits, refused, whole, split, no_place, Splits, ended, headed, further, Applies}
+use Rattle.promise.specs.Kept.{Kept}
 use Rattle.promise.specs.History.{Derived, Tells, History, begins, goes_on, accepted_next, accepted_after}
 use Rattle.promise.specs.Promise.{meant, NoPlace, FirstInRank, Along, Promised, Shown}
 use Rattle.promise.proofs.Rows.{length_adds}

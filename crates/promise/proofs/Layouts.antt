@@ -1,11 +1,10 @@
 -- The rows of a layout. Assumes nothing.
-use Rattle.std.proofs.Common.{◌≡◌, ℕ, suc, ◌+◌, ◌≤◌, Bool, true, false, List, [], ◌∷◌, ◌++◌, map, sym, refl, ap, ◌∙◌, subst}
-use Rattle.std.specs.List.{ContainsAt as Has, AllByRecursion as All}
+use Rattle.std.proofs.Common.{◌≡◌, ℕ, ◌+◌, ◌≤◌, true, List, [], ◌∷◌, ◌++◌, sym, refl, ap, ◌∙◌}
+use Rattle.std.specs.List.{AllByRecursion as All}
 use Rattle.model.specs.declared.timing.Timing.{Timing}
-use Rattle.model.specs.declared.row.Row.{Row}
 use Rattle.model.specs.Row.{timings}
 use Rattle.runs.specs.Plan.{Reservation}
-use Rattle.promise.specs.Layout.{Layout, layout, layout_rows, Distinct, tail_budgets}
+use Rattle.promise.specs.Layout.{Layout, layout, layout_rows, Distinct}
 use Rattle.promise.specs.Meaning.{Meaning}
 use Rattle.promise.specs.Plan.{Plan, On, rows_at}
 use Rattle.promise.specs.Kept.{processors, ComesTo}

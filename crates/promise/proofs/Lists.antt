@@ -1,14 +1,11 @@
 -- Standing in a list, and lists others repetition. Assumes nothing.
-use Rattle.std.proofs.Common.{◌≡◌, ℕ, zero, suc, ◌+◌, ◌<◌, ◌≤◌, Bool, true, false, cond, not, eqb, ◌⊎◌, List, [], ◌∷◌, ◌++◌, map, length, get_or, filter, sym, refl, ap, ◌∙◌, subst, inl, inr, ⊎_elim, true≢false, arith, eq-eqb, ne_eqb, eqb-true}
-use lib.ListN.{length-map}
-use borrow.Author.Tests.{eqb-false}
+use Rattle.std.proofs.Common.{◌≡◌, ℕ, zero, suc, ◌<◌, Bool, true, false, cond, eqb, ◌⊎◌, List, [], ◌∷◌, map, length, filter, sym, refl, ap, ◌∙◌, subst, inl, inr, ⊎_elim, true≢false, arith, eq-eqb, ne_eqb, eqb-true}
 use Rattle.std.specs.List.{ContainsAt as Has, HoldsAt, AllByRecursion as All}
 use Rattle.model.specs.declared.row.Row.{Row}
 use Rattle.promise.specs.Layout.{Distinct}
 use Rattle.promise.specs.Plan.{rows_on, of_key}
 use Rattle.promise.specs.Kept.{processors}
 use Rattle.board.specs.declared.admission.Placed.{Placed}
-use Rattle.processor.specs.Gathering.{others}
 
 module _ {X : Type 0} where
   pub has_none : (y : X) → Has [] y → ⊥

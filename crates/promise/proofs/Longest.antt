@@ -9,7 +9,7 @@ use Rattle.processor.specs.Keys.{has_tail}
 use Rattle.processor.specs.Taking.{free, offers}
 use Rattle.board.specs.Place.{used}
 use Rattle.board.specs.Tail.{offer_at, longer, longest, tail_search}
-use Rattle.promise.specs.Choosing.{rows_at, Vacant, Asked, LongestTail, NoTail}
+use Rattle.promise.specs.Choosing.{rows_at, Asked, LongestTail, NoTail}
 use Rattle.board.proofs.Found.{and_left, and_right, not_so, kept_zero, kept_some}
 
 -- what stands at the end: the longest so far, or the first of the longest offers, and no offer is longer

@@ -1,6 +1,5 @@
 -- What it means to have a place, and to have none. Assumes nothing.
-use Rattle.std.proofs.Common.{◌≡◌, ℕ, suc, ◌+◌, ◌-◌, ◌<◌, ◌≤◌, Bool, true, false, ◌||◌, eqb, ◌⊎◌, List, [], ◌∷◌, ◌++◌, map, reverse, length, ℤ, Some, None, Option, sym, refl, ap, ◌∙◌, subst, subst₂, inl, inr, ⊎_elim, true≢false, arith, length-append, eq-eqb}
-use mathlib.Core.Bool.{false≢true}
+use Rattle.std.proofs.Common.{◌≡◌, ℕ, ◌+◌, ◌-◌, ◌<◌, ◌≤◌, Bool, true, false, ◌||◌, eqb, ◌⊎◌, List, [], ◌∷◌, ◌++◌, map, reverse, length, Some, Option, sym, refl, ap, ◌∙◌, subst, subst₂, inl, inr, ⊎_elim, true≢false, arith, length-append, eq-eqb}
 use mathlib.Core.List.{reverse_aux}
 use native.Mathlib.Decide.{dec_le}
 use lib.ListN.{length-map}
@@ -14,12 +13,12 @@ use Rattle.board.specs.declared.cut.Cut.{Cut}
 use Rattle.board.specs.declared.admission.Placed.{Placed}
 use Rattle.board.specs.Place.{used}
 use Rattle.model.specs.declared.row.Kind.{Kind}
-use Rattle.board.specs.Split.{placed, tails, split_rows}
-use Rattle.promise.specs.Choosing.{rows_at, Takes, FirstTaker, LongestTail, NoTail}
+use Rattle.board.specs.Split.{placed, tails}
+use Rattle.promise.specs.Choosing.{rows_at, Takes}
 use Rattle.promise.specs.Admits.{Sets, Splits, ended, headed, further}
 use Rattle.promise.specs.Meaning.{Meaning, Lawful}
 use Rattle.promise.specs.Plan.{Plan, On}
-use Rattle.promise.specs.Layout.{Layout, layout, layout_rows, Distinct, tail_budgets}
+use Rattle.promise.specs.Layout.{layout, layout_rows, Distinct, tail_budgets}
 use Rattle.promise.proofs.Lists.{has_none, has_here, has_there, has_cases, has_map, has_of_map}
 
 abbrev pub tail_processors : List Cut → List ℕ

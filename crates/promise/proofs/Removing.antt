@@ -1,22 +1,20 @@
 -- Taking the rows of a reservation away keeps what every call keeps. Assumes nothing.
-use Rattle.std.proofs.Common.{◌≡◌, ℕ, zero, suc, ◌+◌, ◌-◌, ◌<◌, ◌≤◌, Bool, true, false, cond, not, eqb, ◌⊎◌, List, [], ◌∷◌, ◌++◌, map, length, get_or, filter, sym, refl, ap, ◌∙◌, subst, inl, inr, ⊎_elim, true≢false, arith, eq-eqb, ne_eqb, eqb-true}
+use Rattle.std.proofs.Common.{◌≡◌, ℕ, zero, suc, ◌+◌, ◌<◌, ◌≤◌, Bool, true, false, cond, not, eqb, ◌⊎◌, List, [], ◌∷◌, map, length, get_or, filter, sym, refl, ap, ◌∙◌, subst, inl, inr, ⊎_elim, arith, eq-eqb, ne_eqb, eqb-true}
 use mathlib.Core.Bool.{false≢true}
 use lib.ListN.{length-map}
-use borrow.Author.Tests.{eqb-false}
-use Rattle.std.specs.List.{ContainsAt as Has, AllByRecursion as All}
+use Rattle.std.specs.List.{ContainsAt as Has}
 use Rattle.std.proofs.ByRecursion.{All-weaker}
 use Rattle.model.specs.declared.row.Row.{Row}
 use Rattle.model.specs.Row.{timings}
 use Rattle.model.specs.Within.{Within, none, keep, skip}
 use Rattle.runs.specs.Plan.{Reservation}
-use Rattle.promise.specs.Layout.{Layout, layout, layout_rows, Distinct}
+use Rattle.promise.specs.Layout.{Layout, layout_rows, Distinct}
 use Rattle.promise.specs.Meaning.{Meaning, Lawful}
-use Rattle.promise.specs.Plan.{Plan, On, rows_at, rows_on, of_key, Stands}
+use Rattle.promise.specs.Plan.{Plan, On, rows_at, of_key, Stands}
 use Rattle.promise.specs.Kept.{Lies, Owned, Kept, dropped}
-use Rattle.promise.proofs.Lists.{has_none, has_here, has_there, has_cases, all_one, all_from_has, has_kept, has_of_kept, has_map, has_of_map}
+use Rattle.promise.proofs.Lists.{has_none, has_cases, all_one, all_from_has, has_kept, has_of_kept, has_map, has_of_map}
 use Rattle.promise.proofs.Rows.{rows_removed}
 use Rattle.promise.proofs.Standing.{one}
-use Rattle.board.specs.declared.admission.Placed.{Placed}
 use Rattle.processor.specs.Gathering.{others}
 use Rattle.board.specs.Withdraw.{without}
 use Rattle.processor.specs.Keys.{is_tail, owners}

@@ -1,14 +1,10 @@
 -- What adding and removing rows leaves on each processor. Assumes nothing.
-use Rattle.std.proofs.Common.{◌≡◌, ℕ, ◌-◌, ◌<◌, ◌≤◌, Bool, true, false, cond, not, eqb, ◌≢◌, List, [], ◌∷◌, ◌++◌, map, length, get_or, set, filter, sym, refl, ap, ◌∙◌, subst, append_assoc, arith, length-set, get_or-set_other, get_or-set_same, eq-eqb, ne_eqb, eqb-true}
-use native.Mathlib.Decide.{dec_lt}
-use lib.ListN.{length-map}
+use Rattle.std.proofs.Common.{◌≡◌, ℕ, ◌-◌, Bool, true, false, cond, eqb, ◌≢◌, List, [], ◌∷◌, ◌++◌, length, sym, refl, ap, ◌∙◌, subst, append_assoc, arith, length-set, get_or-set_other, get_or-set_same, eqb-true}
 use borrow.Author.Tests.{eqb-false}
 use Rattle.std.specs.List.{AllByRecursion as All}
 use Rattle.std.proofs.lemmas.List.{get_or-map, append-nil}
-use Rattle.std.proofs.lemmas.List.Elements.{filter-append}
 use Rattle.std.proofs.ByRecursion.{All-weaker}
-use Rattle.model.specs.declared.row.Row.{Row}
-use Rattle.promise.specs.Plan.{Plan, On, rows_at, add, of_key, rows_on}
+use Rattle.promise.specs.Plan.{Plan, On, rows_at, add, rows_on}
 use Rattle.board.specs.declared.admission.Placed.{Placed}
 use Rattle.board.specs.Admit.{written}
 use Rattle.processor.specs.Gathering.{others}

@@ -1,26 +1,23 @@
 -- A plan that every call keeps is one that an image can say. Assumes nothing.
-use Rattle.std.proofs.Common.{◌≡◌, ℕ, zero, suc, ◌+◌, ◌-◌, ◌<◌, ◌≤◌, Bool, true, false, cond, not, ◌&&◌, eqb, leb, ◌⊎◌, List, [], ◌∷◌, ◌++◌, map, length, get_or, sym, refl, ap, ◌∙◌, subst, inl, inr, ⊎_elim, arith, length-append}
+use Rattle.std.proofs.Common.{◌≡◌, ℕ, zero, suc, ◌+◌, ◌-◌, ◌<◌, ◌≤◌, Bool, true, false, cond, not, ◌&&◌, eqb, leb, ◌⊎◌, List, [], ◌∷◌, ◌++◌, length, get_or, sym, refl, ap, ◌∙◌, subst, inl, inr, ⊎_elim, arith, length-append}
 use lib.ListN.{length-map}
-use Rattle.std.proofs.lemmas.Bool.{eq-eqb, ne_eqb, eqb-true, le-leb, leb-true, and_parts, and_from, cases_lt, cases_eq}
-use Rattle.std.proofs.ByRecursion.{All-get_or, All-from_get_or, All-append, All-weaker}
+use Rattle.std.proofs.lemmas.Bool.{eq-eqb, ne_eqb, eqb-true, le-leb, leb-true, and_parts, and_from, cases_eq}
+use Rattle.std.proofs.ByRecursion.{All-from_get_or, All-append, All-weaker}
 use Rattle.std.specs.List.{ContainsAt as Has, AllByRecursion as All}
-use Rattle.model.specs.declared.timing.Timing.{Timing}
-use Rattle.model.specs.declared.row.Kind.{Kind}
 use Rattle.model.specs.declared.row.Row.{Row}
 use Rattle.model.specs.Row.{kind_number, part, timings}
-use Rattle.runs.specs.Plan.{Reservation, sum_at, total}
+use Rattle.runs.specs.Plan.{Reservation, total}
 use Rattle.board.specs.declared.admission.Placed.{Placed}
 use Rattle.board.specs.declared.cut.Cut.{Cut}
-use Rattle.board.specs.Split.{placed, tails}
-use Rattle.store.specs.Record.{entry, bad_entry}
-use Rattle.store.specs.Keys.{pieces, apart, piece, alike, times, once_each, stretch, stretch_of, split_of, one_reservation, bad_key, keys}
+use Rattle.board.specs.Split.{tails}
+use Rattle.store.specs.Keys.{pieces, apart, piece, alike, times, once_each, stretch, stretch_of, split_of, one_reservation, bad_key}
 use Rattle.store.specs.Loading.{all_of}
-use Rattle.store.specs.Theorems.{TailFits, Sayable, SayablePlan}
+use Rattle.store.specs.Theorems.{Sayable, SayablePlan}
 use Rattle.promise.specs.Layout.{Layout, layout, layout_rows, Distinct, tail_budgets}
 use Rattle.promise.specs.Meaning.{Meaning, Lawful}
 use Rattle.promise.specs.Plan.{Plan, On, rows_at, rows_on, of_key}
-use Rattle.promise.specs.Kept.{Lies, ComesTo, Owned, Kept, processors}
-use Rattle.promise.proofs.Lists.{has_none, has_here, has_there, has_cases, has_kept, all_one, all_from_has, rows_on_cases}
+use Rattle.promise.specs.Kept.{Lies, Owned, Kept, processors}
+use Rattle.promise.proofs.Lists.{has_none, has_cases, has_kept, all_one, all_from_has, rows_on_cases}
 use Rattle.promise.proofs.Totals.{sum_rows, sum_placed, of_one, total_shown}
 use Rattle.promise.proofs.Checked.{reservations_keys}
 

@@ -1,8 +1,7 @@
 -- On a plan that keeps the invariant nobody is late. Assumes nothing.
-use Rattle.std.proofs.Common.{◌≡◌, ℕ, suc, ◌+◌, ◌-◌, ◌<◌, ◌≤◌, Bool, true, false, eqb, ◌⊎◌, List, [], ◌∷◌, length, get_or, sym, refl, ap, ◌∙◌, subst, inl, inr, ⊎_elim, arith, eq-eqb}
+use Rattle.std.proofs.Common.{◌≡◌, ℕ, suc, ◌+◌, ◌-◌, eqb, List, [], ◌∷◌, get_or, sym, refl, subst, inl, inr, ⊎_elim, arith, eq-eqb}
 use Rattle.std.specs.List.{ContainsAt as Has, AllByRecursion as All}
 use Rattle.std.proofs.ByRecursion.{All-from_get_or}
-use Rattle.model.specs.declared.timing.Timing.{Timing}
 use Rattle.model.specs.declared.row.Row.{Row}
 use Rattle.model.specs.Row.{timings}
 use Rattle.runs.specs.Plan.{Reservation, span}
@@ -11,11 +10,10 @@ use Rattle.runs.specs.Board.{RowOf, Owned as OwnedRow, Tight as NoSlack, AddsUp,
 use Rattle.runs.proofs.Promise.{board_never_late}
 use Rattle.promise.specs.Layout.{Layout, layout, layout_rows}
 use Rattle.promise.specs.Meaning.{Meaning, Lawful}
-use Rattle.promise.specs.Plan.{Plan, On, rows_at, rows_on, of_key}
+use Rattle.promise.specs.Plan.{Plan, On, rows_at, rows_on}
 use Rattle.promise.specs.Kept.{Lies, ComesTo, Owned, Kept}
 use Rattle.promise.proofs.Lists.{has_none, has_cases, all_one, all_from_has, has_kept, rows_on_all}
 use Rattle.promise.proofs.Totals.{lies_budget, lies_deadline}
-use Rattle.board.specs.declared.admission.Placed.{Placed}
 use Rattle.board.specs.declared.cut.Cut.{Cut}
 use Rattle.board.specs.Split.{tails}
 

@@ -1,5 +1,5 @@
 -- The rows of a reservation that lies on a plan sum to its layout. Assumes nothing.
-use Rattle.std.proofs.Common.{◌≡◌, ℕ, zero, suc, ◌+◌, ◌-◌, ◌<◌, ◌≤◌, Bool, true, false, cond, eqb, List, [], ◌∷◌, length, get_or, sym, refl, ap, ◌∙◌, subst, add-zero, zero-add, arith, eq-eqb, ne_eqb, eqb-true}
+use Rattle.std.proofs.Common.{◌≡◌, ℕ, zero, suc, ◌+◌, ◌<◌, ◌≤◌, Bool, true, false, cond, eqb, List, [], ◌∷◌, length, get_or, refl, ap, ◌∙◌, subst, arith, ne_eqb, eqb-true}
 use borrow.Author.Tests.{eqb-false}
 use Rattle.std.specs.List.{AllByRecursion as All}
 use Rattle.std.proofs.ByRecursion.{All-weaker}
@@ -8,7 +8,7 @@ use Rattle.model.specs.declared.row.Row.{Row}
 use Rattle.runs.specs.Plan.{Reservation, sum_at, total, span}
 use Rattle.promise.specs.Layout.{Layout, layout, layout_rows, tail_budgets}
 use Rattle.promise.specs.Plan.{Plan, On, rows_at, rows_on, of_key}
-use Rattle.promise.specs.Kept.{Lies, ComesTo}
+use Rattle.promise.specs.Kept.{Lies}
 use Rattle.board.specs.declared.admission.Placed.{Placed}
 use Rattle.board.specs.declared.cut.Cut.{Cut}
 use Rattle.board.specs.Split.{tails}

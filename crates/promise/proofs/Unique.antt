@@ -1,5 +1,5 @@
 -- An admission has one answer and one plan afterwards: its rules allow no two. Assumes nothing.
-use Rattle.std.proofs.Common.{◌≡◌, ℕ, ◌-◌, ◌<◌, Bool, true, false, ◌⊎◌, List, [], ◌∷◌, ◌++◌, get_or, ℤ, Some, None, Ok, Err, Option, Result, sym, refl, ap, ◌∙◌, subst, subst₂, inl, inr, true≢false, arith}
+use Rattle.std.proofs.Common.{◌≡◌, ℕ, ◌-◌, ◌<◌, Bool, true, false, ◌⊎◌, List, [], ◌∷◌, ◌++◌, get_or, ℤ, Some, None, Err, Option, Result, sym, refl, ap, ◌∙◌, subst, subst₂, inl, inr, true≢false, arith}
 use native.Mathlib.Decide.{ℕ_discrete, dec_lt}
 use Rattle.model.specs.Row.{timings}
 use Rattle.model.specs.Refusal.{request_number}

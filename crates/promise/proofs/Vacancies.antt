@@ -2,7 +2,6 @@
 use Rattle.std.proofs.Common.{◌≡◌, ℕ, zero, suc, ◌+◌, ◌<◌, ◌≤◌, Bool, true, false, ◌||◌, eqb, List, [], ◌∷◌, ◌++◌, sym, refl, ap, ◌∙◌, arith, eq-eqb, ne_eqb}
 use native.Mathlib.Decide.{dec_lt}
 use Rattle.board.specs.declared.cut.Cut.{Cut}
-use Rattle.processor.specs.Any.{any}
 use Rattle.board.specs.Place.{used}
 
 -- a number that is used counts nothing

@@ -1,7 +1,7 @@
 -- What the promise shuts out. Assumes nothing.
-use Rattle.std.proofs.Common.{◌≡◌, ℕ, zero, suc, ◌+◌, ◌-◌, ◌<◌, ◌≤◌, true, false, ◌≢◌, ◌⊎◌, List, [], ◌∷◌, ◌++◌, length, get_or, replicate, Some, Ok, Err, sym, refl, ap, ◌∙◌, subst, subst₂, ⊎_elim, arith, length-append}
+use Rattle.std.proofs.Common.{◌≡◌, ℕ, zero, suc, ◌-◌, ◌<◌, ◌≤◌, true, false, ◌≢◌, ◌⊎◌, List, [], ◌∷◌, ◌++◌, length, get_or, replicate, Some, Ok, Err, sym, refl, ap, ◌∙◌, subst, subst₂, ⊎_elim, arith, length-append}
 use lib.ListN.{length-replicate}
-use Rattle.std.specs.List.{ContainsAt as Has, slice_get}
+use Rattle.std.specs.List.{slice_get}
 use Rattle.std.proofs.lemmas.Bool.{cases_lt}
 use Rattle.model.specs.declared.timing.Timing.{Timing}
 use Rattle.model.specs.declared.row.Kind.{Kind}
@@ -11,7 +11,6 @@ use Rattle.model.specs.Scale.{scale}
 use Rattle.model.specs.Share.{densities}
 use Rattle.model.specs.Row.{timings}
 use Rattle.model.proofs.Bounds.{density_le}
-use Rattle.runs.specs.Plan.{Reservation}
 use Rattle.runs.proofs.Late.{late_refutes}
 use Rattle.board.specs.declared.admission.Admission.{Admission}
 use Rattle.board.specs.Setup.{unfit}

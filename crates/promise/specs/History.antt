@@ -1,5 +1,5 @@
 -- Histories: calls, their answers, and the plans between them. Assumes nothing.
-use Rattle.std.specs.Prelude.{◌≡◌, ℕ, List, [], ◌∷◌, Ok, Err, Result}
+use Rattle.std.specs.Prelude.{◌≡◌, List, [], ◌∷◌, Ok, Err, Result}
 use Rattle.model.specs.declared.fault.RequestFault.{RequestFault}
 use Rattle.board.specs.declared.admission.Placed.{Placed}
 use Rattle.runs.specs.Plan.{Reservation}

@@ -1,5 +1,5 @@
 -- Where a reservation stands. Assumes nothing.
-use Rattle.std.specs.Prelude.{ℕ, ◌+◌, List, [], ◌∷◌, map}
+use Rattle.std.specs.Prelude.{ℕ, ◌+◌, List, [], ◌∷◌}
 use Rattle.std.specs.List.{ContainsAt as Has}
 use Rattle.model.specs.declared.timing.Timing.{Timing}
 use Rattle.model.specs.declared.row.Kind.{Kind}

@@ -1,4 +1,6 @@
 // Replays many sessions, parted by lines `----`, from standard input.
+#![tactic(auto)]
+
 use session::driver::replay;
 use std::io;
 

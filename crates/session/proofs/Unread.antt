@@ -1,5 +1,5 @@
 -- What is left of a chunk. Assumes nothing.
-use Rattle.std.proofs.Common.{◌≡◌, ℕ, ◌+◌, ◌-◌, ◌<◌, ◌≤◌, eqb, List, [], length, get_or, take, drop, Some, None, sym, ap, ◌∙◌, add-zero, arith}
+use Rattle.std.proofs.Common.{◌≡◌, ℕ, ◌+◌, ◌-◌, ◌<◌, ◌≤◌, eqb, List, length, get_or, take, drop, Some, None, sym, ap, ◌∙◌, add-zero, arith}
 use Rattle.std.specs.List.{slice_get}
 use Rattle.std.proofs.lemmas.List.{length-drop, length-take-le, drop-drop, drop_all, get_or-drop, get_or-take}
 use Rattle.std.proofs.lemmas.Option.{slice_get_past, slice_get-get_or}

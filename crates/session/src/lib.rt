@@ -1,4 +1,6 @@
 // The console's line call, and the session that a program keeps over an input.
+#![tactic(auto)]
+
 pub mod answer;
 mod chunk;
 mod chunks;

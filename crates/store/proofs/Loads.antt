@@ -10,7 +10,7 @@ use Rattle.store.specs.Record.{entry}
 use Rattle.store.specs.Entries.{entries}
 use Rattle.store.specs.Keys.{key_fault}
 use Rattle.store.specs.Judged.{judge_fault}
-use Rattle.store.specs.Load.{plan_fault, first_of, replaced, Taken, Loaded}
+use Rattle.store.specs.Load.{plan_fault, first_of, replaced, Loaded}
 
 pub answered_some : (o : Option BufferFault) (f : BufferFault) (r : Result (Unit {0}) BufferFault) → r ≡ answered o → r ≡ Err f → o ≡ Some f
 answered_some None f r e was = let z : ◌≡◌ {A = ℕ} 0 1 = cc in absurd (omega arith)

@@ -1,12 +1,11 @@
 -- What load answers stands in the relation of loading. Assumes nothing.
-use Rattle.std.proofs.Common.{◌≡◌, ℕ, ◌+◌, ◌-◌, ◌<◌, ◌≤◌, Bool, true, false, cond, not, ◌||◌, eqb, ltb, ◌⊎◌, List, [], ◌∷◌, ◌++◌, map, length, is_some, Some, None, Ok, Err, Option, Result, sym, refl, ap, ◌∙◌, subst, ⊎_elim, arith}
+use Rattle.std.proofs.Common.{◌≡◌, ℕ, ◌≤◌, Bool, true, false, cond, not, ◌||◌, eqb, ltb, List, [], ◌∷◌, map, length, is_some, Some, None, Ok, Err, Option, Result, sym, refl, ap, ◌∙◌, subst, ⊎_elim, arith}
 use Rattle.std.specs.List.{AllByRecursion as All}
 use Rattle.std.proofs.ByRecursion.{All-append}
 use Rattle.std.proofs.lemmas.Bool.{eqb-true, eqb-false, eq-eqb, ne_eqb, ltb-true, ltb-false, not-false, or_parts, cases_eq, cases_Bool}
 use Rattle.model.specs.declared.timing.Timing.{Timing}
 use Rattle.model.specs.declared.row.Row.{Row}
 use Rattle.model.specs.Limits.{timing_fault}
-use Rattle.store.specs.declared.entry.Entry.{Entry}
 use Rattle.store.specs.declared.fault.BufferFault.{BufferFault}
 use Rattle.store.specs.declared.fault.BufferRule.{BufferRule}
 use Rattle.store.specs.Fault.{fault}
@@ -16,11 +15,11 @@ use Rattle.store.specs.Header.{header_fault, record_count, image_length}
 use Rattle.store.specs.Record.{entry, entry_at, next_at, bad_entry, bad_part}
 use Rattle.store.specs.Records.{record_fault}
 use Rattle.store.specs.Chains.{head_at, chains}
-use Rattle.store.specs.Entries.{unless, along, entries}
-use Rattle.store.specs.Keys.{bad_key, lowest_of, keys, keys_fault, key_fault}
+use Rattle.store.specs.Entries.{unless, along}
+use Rattle.store.specs.Keys.{bad_key, lowest_of, keys}
 use Rattle.store.specs.Judged.{judge_fault}
 use Rattle.store.specs.Load.{plan_fault, first_of, replaced, Taken, Loaded}
-use Rattle.store.specs.Loading.{all_of, Lies, Stuck, LeftOver, Image, PlanOf, Lawful, Loads}
+use Rattle.store.specs.Loading.{all_of, Lies, Stuck, LeftOver, PlanOf, Loads}
 use Rattle.store.proofs.LoadedPlans.{fault_none, record_good, plan_good, all_good}
 use Rattle.store.proofs.Reaches.{chains_numbered}
 use Rattle.store.proofs.Lying.{ChainsLie, chains_lie}

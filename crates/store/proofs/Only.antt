@@ -1,5 +1,5 @@
 -- The relation of loading allows what load computes, and nothing else. Assumes nothing.
-use Rattle.std.proofs.Common.{◌≡◌, ℕ, zero, suc, ◌+◌, ◌-◌, ◌<◌, ◌≤◌, Bool, true, false, cond, not, eqb, ltb, ◌⊎◌, List, [], ◌∷◌, map, length, get_or, Some, None, Ok, Err, Option, Result, sym, refl, ap, ◌∙◌, subst, inl, inr, ⊎_elim, arith}
+use Rattle.std.proofs.Common.{◌≡◌, ℕ, zero, suc, ◌+◌, ◌-◌, ◌<◌, ◌≤◌, Bool, true, false, List, [], ◌∷◌, map, length, get_or, Some, None, Ok, Err, Option, Result, sym, refl, ap, ◌∙◌, subst, inl, inr, ⊎_elim, arith}
 use Rattle.std.specs.List.{AllByRecursion as All}
 use Rattle.std.proofs.lemmas.Bool.{ne_eqb, eq-eqb, lt-ltb, le-ltb, cases_lt}
 use Rattle.model.specs.declared.timing.Timing.{Timing}
@@ -15,10 +15,10 @@ use Rattle.store.specs.Record.{entry, entry_at, next_at, bad_entry}
 use Rattle.store.specs.Records.{record_fault}
 use Rattle.store.specs.Chains.{head_at, chains}
 use Rattle.store.specs.Entries.{unless, along, entries}
-use Rattle.store.specs.Keys.{bad_key, lowest_of, keys, keys_fault, key_fault}
+use Rattle.store.specs.Keys.{bad_key, lowest_of, keys, keys_fault}
 use Rattle.store.specs.Judged.{judge_fault}
 use Rattle.store.specs.Load.{plan_fault, first_of, replaced, Taken, Loaded}
-use Rattle.store.specs.Loading.{all_of, KeyOf, LowestKey, PlanOf, Loads}
+use Rattle.store.specs.Loading.{all_of, PlanOf, Loads}
 use Rattle.store.proofs.ByNumber.{record_suc, record_stop, record_all}
 use Rattle.store.proofs.Unpacks.{entries_along}
 use Rattle.store.proofs.Loads.{loaded_refused, loaded_as}

@@ -1,11 +1,11 @@
 -- The tests of a key's rows, one row on. Assumes nothing.
-use Rattle.std.proofs.Common.{◌≡◌, ℕ, zero, suc, ◌+◌, ◌-◌, ◌<◌, ◌≤◌, Bool, true, false, cond, not, ◌&&◌, eqb, leb, List, [], ◌∷◌, ◌++◌, map, length, get_or, drop, sym, refl, ap, ◌∙◌, append_assoc, arith, length-take}
+use Rattle.std.proofs.Common.{◌≡◌, ℕ, suc, ◌+◌, ◌-◌, ◌<◌, ◌≤◌, Bool, true, false, cond, ◌&&◌, eqb, leb, List, [], ◌∷◌, ◌++◌, map, length, get_or, drop, sym, refl, ap, ◌∙◌, append_assoc, arith, length-take}
 use Rattle.std.proofs.lemmas.Bool.{eq-eqb, ne_eqb, cond_both}
 use Rattle.model.specs.declared.row.Row.{Row}
 use Rattle.model.specs.Row.{kind_number, part}
 use Rattle.store.specs.declared.rows.Rows.{Rows}
 use Rattle.store.specs.InPlace.{rows_in}
-use Rattle.store.specs.Keys.{of_key, apart, pieces, piece, alike, times, once_each, stretch, stretch_of, firsts}
+use Rattle.store.specs.Keys.{of_key, apart, pieces, piece, alike, times, once_each, stretch_of, firsts}
 use Rattle.store.proofs.Drops.{left_more, seen_more}
 
 pub alike_at :

@@ -1,5 +1,5 @@
 -- What was written is read back: numbers and records. Assumes nothing.
-use Rattle.std.proofs.Common.{◌≡◌, ℕ, ◌+◌, ◌-◌, ◌*◌, ◌/◌, ◌%◌, List, [], ◌∷◌, ◌++◌, get_or, drop, sym, refl, ap, ◌∙◌, arith}
+use Rattle.std.proofs.Common.{◌≡◌, ℕ, ◌+◌, ◌*◌, ◌/◌, ◌%◌, List, ◌++◌, get_or, drop, sym, refl, ap, ◌∙◌, arith}
 use native.Mathlib.Nat.{mod-add-div, div-div-eq-div-mul}
 use Rattle.std.proofs.lemmas.List.{get_or-drop}
 use Rattle.model.specs.declared.row.Row.{Row}

@@ -1,5 +1,5 @@
 -- A saved plan is read back, whole. Assumes nothing.
-use Rattle.std.proofs.Common.{◌≡◌, ℕ, ◌+◌, ◌-◌, ◌*◌, ◌<◌, ◌≤◌, Bool, true, false, cond, List, [], ◌∷◌, ◌++◌, map, length, take, drop, replicate, Some, None, Ok, Err, Result, sym, refl, ap, ◌∙◌, subst, arith}
+use Rattle.std.proofs.Common.{◌≡◌, ℕ, ◌+◌, ◌*◌, ◌≤◌, Bool, false, cond, List, [], ◌∷◌, ◌++◌, map, length, take, drop, None, Ok, Err, Result, sym, refl, ap, ◌∙◌, subst, arith}
 use native.Mathlib.Nat.{mod-add-div}
 use Rattle.std.specs.List.{AllByRecursion as All}
 use Rattle.std.proofs.lemmas.List.{append-nil, drop-drop, drop_at}
@@ -15,7 +15,7 @@ use Rattle.store.specs.Image.{heads_bytes, records_bytes, row_count, image}
 use Rattle.store.specs.Header.{header_fault, record_count, image_length}
 use Rattle.store.specs.Record.{entry, entry_at, next_at, bad_entry}
 use Rattle.store.specs.Records.{record_fault}
-use Rattle.store.specs.Chains.{head_at, walks, all_true, covered, chains}
+use Rattle.store.specs.Chains.{head_at, all_true, covered, chains}
 use Rattle.store.specs.Entries.{unless, along, entries}
 use Rattle.store.specs.Load.{plan_fault, replaced, Taken, Loaded}
 use Rattle.store.specs.Theorems.{Storable}

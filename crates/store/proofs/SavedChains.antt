@@ -1,5 +1,5 @@
 -- The chains, records and header of an image that save wrote. Assumes nothing.
-use Rattle.std.proofs.Common.{◌≡◌, ℕ, zero, suc, ◌+◌, ◌-◌, ◌*◌, ◌<◌, ◌≤◌, Bool, true, false, cond, not, ◌&&◌, ◌||◌, eqb, ltb, ◌≢◌, List, [], ◌∷◌, ◌++◌, map, length, get_or, take, drop, set, replicate, Some, None, Ok, Err, sym, refl, ap, ◌∙◌, ap₂, append_assoc, arith, length-append}
+use Rattle.std.proofs.Common.{◌≡◌, ℕ, zero, suc, ◌+◌, ◌-◌, ◌*◌, ◌<◌, ◌≤◌, Bool, true, false, cond, ltb, List, [], ◌∷◌, ◌++◌, map, length, get_or, take, drop, set, replicate, Some, Ok, sym, refl, ap, ◌∙◌, ap₂, append_assoc, arith}
 use lib.Dec.{eqb-suc-zero}
 use lib.ListN.{length-replicate}
 use Rattle.std.specs.List.{AllByRecursion as All}
@@ -7,11 +7,10 @@ use Rattle.std.proofs.lemmas.List.{append-nil, drop-drop, drop_at, take_at, set_
 use Rattle.std.proofs.lemmas.Bool.{or_from, le-ltb}
 use Rattle.model.specs.declared.row.Row.{Row}
 use Rattle.store.specs.declared.entry.Entry.{Entry}
-use Rattle.store.specs.Numbers.{two_bytes}
 use Rattle.store.specs.Image.{record_bytes, first, chain_bytes, records_bytes, heads_bytes, row_count}
 use Rattle.store.specs.Record.{start, next_at, entry_at, entry, bad_entry}
 use Rattle.store.specs.Records.{record_fault}
-use Rattle.store.specs.Chains.{head_at, barred, reach, walk, walks, sound_or, all_true}
+use Rattle.store.specs.Chains.{head_at, barred, reach, walk, walks, all_true}
 use Rattle.store.proofs.Images.{length_chain}
 use Rattle.store.proofs.ReadBack.{two_back, entry_back}
 use Rattle.store.proofs.Walks.{walk_done, walk_suc, walks_suc, walks_all}

@@ -1,5 +1,5 @@
 -- A plan that an image can say is loaded as it was saved, and a plan that was loaded is one. Assumes nothing.
-use Rattle.std.proofs.Common.{◌≡◌, ℕ, ◌+◌, ◌<◌, ◌≤◌, Bool, true, false, cond, not, ◌||◌, eqb, ltb, List, [], ◌∷◌, ◌++◌, map, length, is_some, Some, None, Ok, Err, Result, sym, refl, ap, ◌∙◌, subst, arith}
+use Rattle.std.proofs.Common.{◌≡◌, ℕ, ◌+◌, ◌≤◌, Bool, false, cond, not, ◌||◌, eqb, ltb, List, [], ◌∷◌, ◌++◌, map, length, is_some, None, Ok, Result, sym, refl, ap, ◌∙◌, subst, arith}
 use Rattle.std.specs.List.{AllByRecursion as All}
 use Rattle.std.proofs.lemmas.List.{length-map}
 use Rattle.std.proofs.ByRecursion.{All-weaker}
@@ -11,9 +11,7 @@ use Rattle.model.specs.Row.{kind_number, part}
 use Rattle.model.specs.Limits.{timing_fault}
 use Rattle.store.specs.declared.fault.BufferFault.{BufferFault}
 use Rattle.store.specs.Image.{image}
-use Rattle.store.specs.Header.{record_count}
 use Rattle.store.specs.Record.{entry, entry_at, bad_part, bad_entry}
-use Rattle.store.specs.Entries.{entries}
 use Rattle.store.specs.Keys.{bad_key, lowest_of, keys}
 use Rattle.store.specs.Judged.{judge_fault}
 use Rattle.store.specs.Load.{plan_fault, Loaded}

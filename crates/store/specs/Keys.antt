@@ -1,6 +1,5 @@
 -- Which rows of a key make a reservation. Assumes nothing.
 use Rattle.std.specs.Prelude.{◌≡◌, ℕ, zero, suc, ◌+◌, Bool, true, false, cond, not, ◌&&◌, ◌||◌, List, [], ◌∷◌, ◌++◌, length, Some, None, filter, Option, ◌==◌, nat_eq, nat_le, nat_lt}
-use Rattle.model.specs.declared.row.Kind.{Kind}
 use Rattle.model.specs.declared.row.Row.{Row}
 use Rattle.model.specs.Row.{kind_number, part}
 use Rattle.store.specs.declared.fault.BufferFault.{BufferFault}

@@ -9,7 +9,7 @@ use Rattle.store.specs.Record.{entry, entry_at, next_at, bad_entry}
 use Rattle.store.specs.declared.fault.BufferFault.{BufferFault}
 use Rattle.store.specs.declared.fault.BufferRule.{BufferRule}
 use Rattle.store.specs.Fault.{fault}
-use Rattle.store.specs.Header.{header_fault, record_count, image_length}
+use Rattle.store.specs.Header.{header_fault, record_count}
 use Rattle.store.specs.Chains.{head_at}
 use Rattle.store.specs.Keys.{bad_key, keys}
 

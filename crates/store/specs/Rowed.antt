@@ -1,5 +1,5 @@
 -- The row that an entry says. Assumes nothing.
-use Rattle.std.specs.Prelude.{◌≡◌, Bool, true, false, Some, None, Option}
+use Rattle.std.specs.Prelude.{◌≡◌, true, false, Some, None, Option}
 use Rattle.model.specs.declared.row.Row.{Row}
 use Rattle.store.specs.declared.entry.Entry.{Entry}
 use Rattle.store.specs.Record.{entry, bad_entry}

@@ -1,4 +1,6 @@
 // The stored plan: a board's plan as bytes, saved and loaded. docs/stored-plan.md has the format, byte by byte.
+#![tactic(auto)]
+
 mod chain;
 mod chains;
 mod decode;

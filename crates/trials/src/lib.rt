@@ -1,3 +1,5 @@
+#![tactic(auto)]
+
 // Boards that are run: the limits, and worked examples of docs/rules.md with values worked out by hand.
 #[cfg(test)]
 mod asking;

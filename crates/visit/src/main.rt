@@ -1,5 +1,7 @@
 // A guest's judge and rule at work: one processor filled to the last tick, one with a tick left, and a board whose odd
 // processors go first.
+#![tactic(auto)]
+
 use board::admission::Admission;
 use board::gathered::Gathered;
 use guest::odd_first::OddFirst;

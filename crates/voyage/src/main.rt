@@ -1,4 +1,6 @@
 // A list of calls from set-up on, made by the one call that carries the promise, and the answer to each.
+#![tactic(auto)]
+
 use board::admission::Admission;
 use board::gathered::Gathered;
 use judges::demand::Demand;

@@ -6,6 +6,8 @@
 // deadline and a period, which answers the rows that were made and on which processors, or why not; `withdraw` with a key, which
 // answers what was gathered; and `look` with a processor and a position. `save` and `load` keep a plan as bytes. A refusal changes
 // nothing. `run` makes a whole list of calls from set-up on; its contract is the promise that nobody is late.
+#![tactic(auto)]
+
 pub mod setting_up;
 pub mod sizes;
 

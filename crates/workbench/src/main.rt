@@ -1,4 +1,6 @@
 // The workbench: keeps one board over standard input, and answers each line on standard output.
+#![tactic(auto)]
+
 use bench::driver::run;
 use bench::reader::Reader;
 use std::io;

@@ -1,4 +1,4 @@
-use Rattle.std.proofs.Common.{string_bytes, sym, ap, ◌∙◌}
+use Rattle.std.proofs.Common.{string_bytes, ap, ◌∙◌}
 use Rattle.std.proofs.lemmas.List.{take_all}
 use Rattle.benchlines.specs.Hex.{digits_of}
 use Rattle.benchlines.proofs.Hexes.{pushed_more}

@@ -1,4 +1,4 @@
-use Rattle.std.proofs.Common.{◌≡◌, ◌*◌, ◌/◌, ◌<◌, length, drop, arith}
+use Rattle.std.proofs.Common.{◌*◌, ◌/◌, ◌<◌, length, drop, arith}
 use Rattle.std.proofs.lemmas.List.{length-drop}
 use Rattle.benchlines.proofs.Hexes.{decoded_more, beyond_more, decoded_all}
 use Rattle.benchlines.proofs.hex.write_bytes.Goals as goal

@@ -1,4 +1,4 @@
-use Rattle.std.proofs.Common.{◌≡◌, eqb, sym, ◌∙◌, eq-eqb, ne_eqb}
+use Rattle.std.proofs.Common.{eqb, sym, ◌∙◌, eq-eqb, ne_eqb}
 use Rattle.std.proofs.lemmas.List.{at_drop_all}
 use Rattle.board.specs.Place.{used}
 use Rattle.processor.proofs.Steps.{any_here, any_past}

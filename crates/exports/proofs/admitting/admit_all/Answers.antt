@@ -1,4 +1,4 @@
-use Rattle.std.proofs.Common.{◌≡◌, get_or, ◌∙◌, subst, subst₂, arith}
+use Rattle.std.proofs.Common.{◌≡◌, get_or, ◌∙◌, subst₂, arith}
 use Rattle.board.specs.Plan.{plan}
 use Rattle.exports.specs.declared.numbers.Wanted.{Wanted}
 use Rattle.exports.specs.Boards.{admitting}

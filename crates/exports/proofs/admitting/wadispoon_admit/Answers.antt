@@ -4,7 +4,7 @@ use Rattle.model.specs.Scale.{scale}
 use Rattle.judges.specs.Allowance.{demand_allowance}
 use Rattle.judges.specs.Demand.{demand_yes}
 use Rattle.board.specs.Plan.{plan}
-use Rattle.exports.specs.Boards.{count_over, admitting, Counted, counted}
+use Rattle.exports.specs.Boards.{count_over, admitting, counted}
 use Rattle.exports.proofs.admitting.wadispoon_admit.Goals as goal
 
 pub returns-in-Ok : goal.returns-in-Ok

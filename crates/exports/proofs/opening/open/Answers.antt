@@ -1,4 +1,4 @@
-use Rattle.std.proofs.Common.{◌≡◌, ◌⊎◌, [], replicate, Ok, Err, ap, ◌∙◌, subst₂, inl, inr}
+use Rattle.std.proofs.Common.{[], replicate, Ok, Err, ap, ◌∙◌, subst₂, inr}
 use Rattle.model.specs.Refusal.{setup_number}
 use Rattle.model.specs.Scale.{scale}
 use Rattle.judges.specs.Demand.{demand_yes}

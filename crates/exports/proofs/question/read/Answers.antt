@@ -1,10 +1,10 @@
-use Rattle.std.proofs.Common.{◌≡◌, ◌+◌, ◌<◌, map, length, drop, Some, sym, refl, ap, ◌∙◌, arith}
+use Rattle.std.proofs.Common.{◌+◌, ◌<◌, length, drop, Some, sym, ap, ◌∙◌, arith}
 use Rattle.std.proofs.lemmas.List.{take_all, at_drop_all}
 use Rattle.model.specs.Refusal.{request_number}
 use Rattle.processor.specs.Few.{held}
 use Rattle.processor.proofs.Ends.{pushed_room}
 use Rattle.exports.specs.declared.numbers.Numbers.{Numbers}
-use Rattle.exports.specs.Judging.{numbers, numbered, or_later, rows_fault}
+use Rattle.exports.specs.Judging.{numbered, or_later, rows_fault}
 use Rattle.exports.proofs.Reading.{fault_at, read_count, read_more, numbers_same}
 use Rattle.exports.proofs.question.read.Goals as goal
 

@@ -2,7 +2,7 @@ use Rattle.std.proofs.Common.{◌≡◌, ◌∙◌, subst}
 use Rattle.model.specs.Scale.{scale}
 use Rattle.judges.specs.Demand.{demand_yes}
 use Rattle.board.specs.Plan.{plan}
-use Rattle.exports.specs.Boards.{count_over, withdrawing, Counted, counted}
+use Rattle.exports.specs.Boards.{count_over, withdrawing, counted}
 use Rattle.exports.proofs.withdrawing.wadispoon_withdraw.Goals as goal
 
 pub returns-in-Ok : goal.returns-in-Ok

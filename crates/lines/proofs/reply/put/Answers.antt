@@ -1,4 +1,4 @@
-use Rattle.std.proofs.Common.{◌≡◌, ◌+◌, ◌-◌, length, sym, subst, arith}
+use Rattle.std.proofs.Common.{◌+◌, ◌-◌, length, subst, arith}
 use borrow.Rule.Slice.PartMut.{put_mid}
 use Rattle.lines.specs.Replies.{Wrote}
 use Rattle.lines.proofs.Puts.{put_part}

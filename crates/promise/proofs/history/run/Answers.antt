@@ -1,12 +1,12 @@
-use Rattle.std.proofs.Common.{◌≡◌, ℕ, ◌+◌, ◌≤◌, List, [], ◌∷◌, ◌++◌, length, get_or, take, replicate, vec_items, sym, refl, ap, ◌∙◌, subst, subst₂, arith, take_all}
+use Rattle.std.proofs.Common.{List, [], length, get_or, replicate, vec_items, sym, refl, ap, ◌∙◌, subst, subst₂, arith, take_all}
 use Rattle.std.proofs.lemmas.List.{take_more}
 use Rattle.model.specs.declared.row.Row.{Row}
 use Rattle.board.specs.Plan.{plan}
 use Rattle.promise.specs.declared.call.Call.{Call}
 use Rattle.promise.specs.declared.call.Answer.{Answer}
-use Rattle.promise.specs.Meaning.{Meaning, Lawful}
+use Rattle.promise.specs.Meaning.{Lawful}
 use Rattle.promise.specs.History.{Derived, History, begins}
-use Rattle.promise.specs.Promise.{meant, Promised}
+use Rattle.promise.specs.Promise.{meant}
 use Rattle.promise.proofs.Histories.{history_push, promised, shown}
 use Rattle.promise.proofs.history.run.Goals as goal
 

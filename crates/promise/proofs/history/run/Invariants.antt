@@ -1,4 +1,4 @@
-use Rattle.std.proofs.Common.{◌≡◌, ◌≤◌, [], length, take, replicate, vec_items, vec_len, vec_capacity}
+use Rattle.std.proofs.Common.{◌≡◌, ◌≤◌, length, take, vec_items, vec_len, vec_capacity}
 use Rattle.board.specs.Plan.{plan}
 use Rattle.promise.specs.History.{History}
 use Rattle.promise.specs.Promise.{meant}

@@ -1,6 +1,6 @@
-use Rattle.std.proofs.Common.{◌≡◌, ℕ, zero, suc, ◌+◌, ◌<◌, ◌≤◌, List, sym, refl, ap, ◌∙◌, subst, subst₂, arith}
+use Rattle.std.proofs.Common.{◌≡◌, ℕ, zero, suc, ◌<◌, ◌≤◌, List, sym, refl, ap, subst₂, arith}
 use Rattle.runs.specs.Pieces.{Stream, row}
-use Rattle.runs.specs.Run.{Slot, serves, gives, served, Waits}
+use Rattle.runs.specs.Run.{Slot, gives, served, Waits}
 use Rattle.runs.proofs.words.ties_free.Goals as goal
 
 served-same : (run other : ℕ → Slot) (a b t : ℕ) → ((u : ℕ) → u < t → other u ≡ run u) → served other a b t ≡ served run a b t

@@ -1,4 +1,4 @@
-use Rattle.std.proofs.Common.{◌≡◌, ◌-◌, length, take, sym, ap, ◌∙◌, arith, length-set}
+use Rattle.std.proofs.Common.{◌≡◌, ◌-◌, length, take, ap, ◌∙◌, arith, length-set}
 use Rattle.model.specs.Row.{timings}
 use Rattle.std.proofs.lemmas.List.{take_all}
 use Rattle.store.proofs.Fills.{timings_more}

@@ -1,4 +1,4 @@
-use Rattle.std.proofs.Common.{◌≡◌, true, false, ◌++◌, sym, refl, ap, ◌∙◌, append-nil, arith}
+use Rattle.std.proofs.Common.{true, false, ◌++◌, sym, refl, ap, ◌∙◌, append-nil, arith}
 use Rattle.store.specs.InPlace.{rows_in}
 use Rattle.store.specs.Keys.{apart, pieces}
 use Rattle.store.proofs.Drops.{seen_all}

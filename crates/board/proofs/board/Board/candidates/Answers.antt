@@ -1,7 +1,5 @@
-use Rattle.std.proofs.Common.{◌≡◌, ℕ, ◌+◌, ◌<◌, ◌≤◌, List, [], ◌∷◌, ◌++◌, length, get_or, drop, vec_items, sym, ap, ◌∙◌, arith}
+use Rattle.std.proofs.Common.{◌≡◌, ◌+◌, ◌<◌, [], ◌∷◌, ◌++◌, length, get_or, drop, vec_items, sym, ap, ◌∙◌, arith}
 use Rattle.std.proofs.lemmas.List.{length-map, length_push}
-use Rattle.model.specs.declared.row.Row.{Row}
-use Rattle.placement.specs.declared.candidate.Candidate.{Candidate}
 use Rattle.processor.specs.Rows.{rows_of}
 use Rattle.board.specs.Plan.{plan}
 use Rattle.processor.specs.Few.{held}

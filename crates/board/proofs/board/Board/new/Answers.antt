@@ -1,4 +1,4 @@
-use Rattle.std.proofs.Common.{vec_items, arith}
+use Rattle.std.proofs.Common.{arith}
 use Rattle.processor.specs.Rows.{rows_of}
 use Rattle.board.proofs.Plans.{map_grown}
 use Rattle.board.proofs.board.Board.new.Goals as goal

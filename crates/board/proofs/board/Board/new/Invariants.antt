@@ -1,4 +1,4 @@
-use Rattle.std.proofs.Common.{◌≡◌, ◌≤◌, List, [], map, replicate, vec_items, vec_len, vec_capacity}
+use Rattle.std.proofs.Common.{◌≡◌, ◌≤◌, [], map, replicate, vec_items, vec_len, vec_capacity}
 use Rattle.processor.specs.Rows.{rows_of}
 use Rattle.board.proofs.board.Board.new.Given as goal
 

@@ -1,4 +1,4 @@
-use Rattle.std.proofs.Common.{◌≡◌, ℕ, sym, ap, ◌∙◌, arith}
+use Rattle.std.proofs.Common.{ℕ, sym, ap, ◌∙◌, arith}
 use Rattle.board.specs.Tail.{cut_off}
 use Rattle.board.proofs.Tails.{cut_made}
 use Rattle.board.proofs.board.Board.next_cut.Goals as goal

@@ -1,6 +1,5 @@
-use Rattle.std.proofs.Common.{◌≡◌, [], vec_items, sym, ap, ◌∙◌, arith}
+use Rattle.std.proofs.Common.{[], vec_items, sym, ap, ◌∙◌, arith}
 use Rattle.processor.specs.Rows.{rows_of}
-use Rattle.board.specs.Plan.{plan}
 use Rattle.processor.specs.Taking.{takes}
 use Rattle.processor.proofs.Places.{read_map}
 use Rattle.board.proofs.Candidates.{open_unused}

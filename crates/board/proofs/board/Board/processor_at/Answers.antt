@@ -1,4 +1,4 @@
-use Rattle.std.proofs.Common.{◌≡◌, vec_items, sym, inl, inr, arith}
+use Rattle.std.proofs.Common.{vec_items, sym, inl, inr, arith}
 use Rattle.std.proofs.lemmas.List.{length-map}
 use Rattle.processor.specs.Rows.{rows_of}
 use Rattle.board.specs.Plan.{plan}

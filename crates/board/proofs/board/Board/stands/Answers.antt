@@ -1,4 +1,4 @@
-use Rattle.std.proofs.Common.{◌≡◌, map, sym, ap, ◌∙◌}
+use Rattle.std.proofs.Common.{map, sym, ap, ◌∙◌}
 use Rattle.processor.specs.Rows.{rows_of}
 use Rattle.processor.specs.Keys.{has_key}
 use Rattle.board.specs.Keys.{stands}

@@ -1,4 +1,4 @@
-use Rattle.std.proofs.Common.{◌≡◌, ◌+◌, ◌-◌, length, drop, ap, ◌∙◌, arith, rules}
+use Rattle.std.proofs.Common.{◌≡◌, ◌+◌, ◌-◌, length, ◌∙◌, arith, rules}
 use Rattle.std.proofs.lemmas.List.{drop-set}
 use Rattle.lines.proofs.reply_line.ReplyLine.byte.Goals as goal
 

@@ -1,4 +1,4 @@
-use Rattle.std.proofs.Common.{◌≡◌, ◌<◌, [], ◌∷◌, ◌++◌, length, ap, ◌∙◌, arith}
+use Rattle.std.proofs.Common.{◌<◌, [], ◌∷◌, ◌++◌, length, ap, ◌∙◌, arith}
 use Rattle.processor.specs.Few.{held}
 use Rattle.processor.specs.Rows.{rows_of}
 use Rattle.processor.proofs.Ends.{pushed_room}

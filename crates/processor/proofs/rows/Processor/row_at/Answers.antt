@@ -1,4 +1,4 @@
-use Rattle.std.proofs.Common.{◌≡◌, Some, sym, ap, ◌∙◌, inl, inr, arith}
+use Rattle.std.proofs.Common.{Some, sym, ap, ◌∙◌, inl, inr, arith}
 use Rattle.processor.specs.Rows.{rows_of}
 use Rattle.processor.proofs.Places.{counted_past, counted_in}
 use Rattle.processor.proofs.rows.Processor.row_at.Goals as goal
