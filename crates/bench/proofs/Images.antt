@@ -1,6 +1,6 @@
 -- An image of any plan of a board has room in 4,628 bytes, and a field of a line in as many as the line. Assumes nothing.
 use Rattle.std.proofs.Common.{◌≡◌, ℕ, zero, suc, ◌+◌, ◌-◌, ◌*◌, ◌/◌, ◌≤◌, Bool, true, false, cond, ◌&&◌, ltb, leb, List, [], ◌∷◌, ◌++◌, map, length, get_or, take, Some, None, Ok, Err, Result, refl, ap, ◌∙◌, arith, length-append, ltb-false, le-ltb, le-leb, leb-true}
-use Rattle.std.specs.List.{AllByRecursion as All}
+use Rattle.std.specs.List.{AllByRecursion}
 use Rattle.std.proofs.lemmas.List.{length-map, take_at}
 use Rattle.processor.specs.declared.rows.Processor.{Processor}
 use Rattle.processor.specs.Rows.{rows_of}
@@ -51,22 +51,22 @@ image_front ps n m buffer rest then h long value after =
     let all : length bytes ≡ m - 0 = omega arith in
     ap (take (m - 0)) (after ∙ rw e refl) ∙ take_at bytes rest (m - 0) all
 
-short_if : (b : Bool) (x y : List (List ℕ)) (n : ℕ) → All (λ g. length g ≤ n) x → All (λ g. length g ≤ n) y → All (λ g. length g ≤ n) (cond b x y)
+short_if : (b : Bool) (x y : List (List ℕ)) (n : ℕ) → AllByRecursion (λ g. length g ≤ n) x → AllByRecursion (λ g. length g ≤ n) y → AllByRecursion (λ g. length g ≤ n) (cond b x y)
 short_if true x y n hx hy = hx
 short_if false x y n hx hy = hy
 
-short_ended : (f : List ℕ) (fs : List (List ℕ)) (n : ℕ) → length f ≤ n → All (λ g. length g ≤ n) fs → All (λ g. length g ≤ n) (ended f fs)
+short_ended : (f : List ℕ) (fs : List (List ℕ)) (n : ℕ) → length f ≤ n → AllByRecursion (λ g. length g ≤ n) fs → AllByRecursion (λ g. length g ≤ n) (ended f fs)
 short_ended [] fs n h all = all
 short_ended (b ∷ f) fs n h all = (h, all)
 
-short_fields : (f l : List ℕ) (n : ℕ) → length f + length l ≤ n → All (λ g. length g ≤ n) (fields_after f l)
+short_fields : (f l : List ℕ) (n : ℕ) → length f + length l ≤ n → AllByRecursion (λ g. length g ≤ n) (fields_after f l)
 short_fields f [] n h = short_ended f [] n (omega arith) tt
 short_fields f (b ∷ l) n h =
     short_if (is_space b) (ended f (fields_after [] l)) (fields_after (f ++ (b ∷ [])) l) n
     (short_ended f (fields_after [] l) n (omega arith) (short_fields [] l n (omega arith)))
     (short_fields (f ++ (b ∷ [])) l n (omega (arith, length-append f (b ∷ []))))
 
-short_at : (fs : List (List ℕ)) (k n : ℕ) → All (λ g. length g ≤ n) fs → length (get_or fs k []) ≤ n
+short_at : (fs : List (List ℕ)) (k n : ℕ) → AllByRecursion (λ g. length g ≤ n) fs → length (get_or fs k []) ≤ n
 short_at [] k n all = omega arith
 short_at (f ∷ fs) zero n all = all.0
 short_at (f ∷ fs) (suc k) n all = short_at fs k n all.1

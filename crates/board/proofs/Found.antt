@@ -2,7 +2,7 @@
 -- Assumes nothing.
 use Rattle.std.proofs.Common.{◌≡◌, ℕ, zero, suc, ◌+◌, ◌-◌, ◌<◌, ◌≤◌, Bool, true, false, cond, not, ◌&&◌, eqb, ltb, List, [], ◌∷◌, ◌++◌, reverse, length, get_or, ℤ, Some, None, Option, sym, refl, ap, ◌∙◌, subst, arith, ltb-true}
 use borrow.Author.Tests.{eqb-false}
-use Rattle.std.specs.List.{AllByRecursion as All}
+use Rattle.std.specs.List.{AllByRecursion}
 use Rattle.std.proofs.ByRecursion.{All-weaker}
 use Rattle.model.specs.declared.row.Row.{Row}
 use Rattle.model.specs.declared.row.Kind.{Kind}
@@ -59,11 +59,11 @@ passes_here test n rows plan ok =
     (omega arith, omega arith, ap (λ k. test n (get_or (rows ∷ plan) k [])) e ∙ ok)
 
 -- every candidate passes the test
-with_here : (P : Candidate → Type 0) (b : Bool) (c : Candidate) (l : List Candidate) → (b ≡ true → P c) → All P l → All P (cond b (c ∷ l) l)
+with_here : (P : Candidate → Type 0) (b : Bool) (c : Candidate) (l : List Candidate) → (b ≡ true → P c) → AllByRecursion P l → AllByRecursion P (cond b (c ∷ l) l)
 with_here P true c l here rest = (here refl, rest)
 with_here P false c l here rest = rest
 
-pub candidates_pass : (test : ℕ → List Row → Bool) (n : ℕ) (plan : List (List Row)) → All (λ c. Passes test n plan c.processor) (candidates test n plan)
+pub candidates_pass : (test : ℕ → List Row → Bool) (n : ℕ) (plan : List (List Row)) → AllByRecursion (λ c. Passes test n plan c.processor) (candidates test n plan)
 candidates_pass test n [] = tt
 candidates_pass test n (rows ∷ plan) =
     with_here (λ c. Passes test n (rows ∷ plan) c.processor) (test n rows) (as_candidate n rows) (candidates test (n + 1) plan)
@@ -77,12 +77,12 @@ module _ {R : Type 0} (first : R → R → Bool) (ranks : ℕ → ℤ → ℕ �
   either_one true x y p q = p
   either_one false x y p q = q
 
-  best_is : (a : Candidate) (l : List Candidate) → P a → All P l → P (best_of first ranks a l)
+  best_is : (a : Candidate) (l : List Candidate) → P a → AllByRecursion P l → P (best_of first ranks a l)
   best_is a [] p all = p
   best_is a (b ∷ l) p (q, all) =
       best_is (better first ranks a b) l (either_one (first (rank_of ranks b) (rank_of ranks a)) b a q p) all
 
-  choice_is : (l : List Candidate) (p : ℕ) → All P l → number_of (choice first ranks l) ≡ Some p → (c : Candidate) × P c × (c.processor ≡ p)
+  choice_is : (l : List Candidate) (p : ℕ) → AllByRecursion P l → number_of (choice first ranks l) ≡ Some p → (c : Candidate) × P c × (c.processor ≡ p)
   choice_is [] p all e = let z : ◌≡◌ {A = ℕ} 0 1 = cc in absurd (omega arith)
   choice_is (a ∷ l) p (q, all) e =
       let same : (best_of first ranks a l).processor ≡ p = cc in (best_of first ranks a l, best_is a l q all, same)

@@ -1,6 +1,6 @@
 -- A line with spaces in front, then a field, then the rest: what its fields are. Assumes nothing.
 use Rattle.std.proofs.Common.{◌≡◌, ℕ, ◌+◌, ◌<◌, Bool, true, false, cond, not, eqb, ltb, List, [], ◌∷◌, ◌++◌, length, get_or, take, drop, refl, ⊎_elim, one-add, arith}
-use Rattle.std.specs.List.{prefix_len, AllByRecursion as All}
+use Rattle.std.specs.List.{prefix_len, AllByRecursion}
 use Rattle.std.proofs.lemmas.List.{append-nil, append_assoc, get_or_past}
 use Rattle.std.proofs.ByRecursion.{All-get_or}
 use Rattle.std.proofs.lemmas.Bool.{cases_lt, lt-ltb, le-ltb, ne_eqb}
@@ -61,19 +61,19 @@ next_is l t f r n m spaces here others first after =
     rw (first, after, others, ← same) (begins t none)
 
 -- a field has at least one byte
-pub fields_some : (f l : List ℕ) → All (λ x. 0 < length x) (fields_after f l)
+pub fields_some : (f l : List ℕ) → AllByRecursion (λ x. 0 < length x) (fields_after f l)
 fields_some [] [] = tt
 fields_some (a ∷ f) [] = (omega arith, tt)
 fields_some f (b ∷ l) = at (is_space b) f (fields_some [] l) (fields_some (f ++ (b ∷ [])) l)
   where
-    at : (t : Bool) (g : List ℕ) → All (λ x. 0 < length x) (fields l) → All (λ x. 0 < length x) (fields_after (f ++ (b ∷ [])) l)
-        → All (λ x. 0 < length x) (cond t (ended g (fields l)) (fields_after (f ++ (b ∷ [])) l))
+    at : (t : Bool) (g : List ℕ) → AllByRecursion (λ x. 0 < length x) (fields l) → AllByRecursion (λ x. 0 < length x) (fields_after (f ++ (b ∷ [])) l)
+        → AllByRecursion (λ x. 0 < length x) (cond t (ended g (fields l)) (fields_after (f ++ (b ∷ [])) l))
     at true [] end more = end
     at true (a ∷ g) end more = (omega arith, end)
     at false g end more = more
 
 -- so a place with no byte has no field
-pub stands : (fs : List (List ℕ)) (k : ℕ) → All (λ x. 0 < length x) fs → not (eqb (length (get_or fs k [])) 0) ≡ ltb k (length fs)
+pub stands : (fs : List (List ℕ)) (k : ℕ) → AllByRecursion (λ x. 0 < length x) fs → not (eqb (length (get_or fs k [])) 0) ≡ ltb k (length fs)
 stands fs k some =
     ⊎_elim
     (λ here.

@@ -1,13 +1,13 @@
 -- The choice is first among the candidates, by the laws of the order alone. Assumes nothing.
 use Rattle.std.proofs.Common.{◌≡◌, ℕ, Bool, true, false, cond, ◌⊎◌, List, [], ◌∷◌, ◌++◌, ℤ, sym, refl, ap, ◌∙◌, subst, inl, inr, append_assoc, append-nil, arith}
 use borrow.Author.Tests.{clash}
-use Rattle.std.specs.List.{AllByRecursion as All}
+use Rattle.std.specs.List.{AllByRecursion}
 use Rattle.std.proofs.ByRecursion.{All-append, All-push, All-weaker}
 use Rattle.placement.specs.declared.candidate.Candidate.{Candidate}
 use Rattle.placement.specs.First.{rank_of, better, best_of, choice, First, Chosen}
 
 -- an element between two lists
-pub all_middle : {X : Type 0} (P : X → Type 0) (xs : List X) (x : X) (ys : List X) → All P (xs ++ (x ∷ ys)) → P x
+pub all_middle : {X : Type 0} (P : X → Type 0) (xs : List X) (x : X) (ys : List X) → AllByRecursion P (xs ++ (x ∷ ys)) → P x
 all_middle P [] x ys h = h.0
 all_middle P (y ∷ xs) x ys h = all_middle P xs x ys h.1
 
@@ -65,19 +65,19 @@ module _ {R : Type 0} (first : R → R → Bool) (ranks : ℕ → ℤ → ℕ �
 
     -- a candidate that stands after another, and is first, leaves that other not first
     beaten : (c d y : Candidate) (after mid end : List Candidate) → c ∷ after ≡ y ∷ (mid ++ (d ∷ end)) →
-        All (λ x. (first (rank_of ranks c) (rank_of ranks x) ≡ true) ⊎ (rank_of ranks c ≡ rank_of ranks x)) after →
+        AllByRecursion (λ x. (first (rank_of ranks c) (rank_of ranks x) ≡ true) ⊎ (rank_of ranks c ≡ rank_of ranks x)) after →
         first (rank_of ranks d) (rank_of ranks y) ≡ true → ⊥
     beaten c d y after mid end e w h =
         let r = rank_of ranks in
         let Later : Candidate → Type 0 = λ x. (first (r c) (r x) ≡ true) ⊎ (r c ≡ r x) in
         let same : y ≡ c = cc in let rest : after ≡ mid ++ (d ∷ end) = cc in
-        never (r c) (r d) (all_middle Later mid d end (subst (All Later) rest w)) (subst (λ x. first (r d) (r x) ≡ true) same h)
+        never (r c) (r d) (all_middle Later mid d end (subst (AllByRecursion Later) rest w)) (subst (λ x. first (r d) (r x) ≡ true) same h)
 
     agree : (c d : Candidate) (b a b' a' : List Candidate) → b ++ (c ∷ a) ≡ b' ++ (d ∷ a') →
-        All (λ x. first (rank_of ranks c) (rank_of ranks x) ≡ true) b →
-        All (λ x. (first (rank_of ranks c) (rank_of ranks x) ≡ true) ⊎ (rank_of ranks c ≡ rank_of ranks x)) a →
-        All (λ x. first (rank_of ranks d) (rank_of ranks x) ≡ true) b' →
-        All (λ x. (first (rank_of ranks d) (rank_of ranks x) ≡ true) ⊎ (rank_of ranks d ≡ rank_of ranks x)) a' → c ≡ d
+        AllByRecursion (λ x. first (rank_of ranks c) (rank_of ranks x) ≡ true) b →
+        AllByRecursion (λ x. (first (rank_of ranks c) (rank_of ranks x) ≡ true) ⊎ (rank_of ranks c ≡ rank_of ranks x)) a →
+        AllByRecursion (λ x. first (rank_of ranks d) (rank_of ranks x) ≡ true) b' →
+        AllByRecursion (λ x. (first (rank_of ranks d) (rank_of ranks x) ≡ true) ⊎ (rank_of ranks d ≡ rank_of ranks x)) a' → c ≡ d
     agree c d [] a [] a' e s w t v = cc
     agree c d [] a (y ∷ b') a' e s w t v = absurd (beaten c d y a b' a' e w t.0)
     agree c d (y ∷ b) a [] a' e s w t v = absurd (beaten d c y a' b a (sym e) v s.0)

@@ -1,6 +1,6 @@
 -- Which of several candidates comes first: the first rank wins, equal ranks go to the earlier. Assumes nothing.
 use Rattle.std.specs.Prelude.{◌≡◌, ℕ, Bool, true, cond, ◌⊎◌, List, [], ◌∷◌, ◌++◌, ℤ, Some, None, Option}
-use Rattle.std.specs.List.{AllByRecursion as All}
+use Rattle.std.specs.List.{AllByRecursion}
 use Rattle.placement.specs.declared.candidate.Candidate.{Candidate}
 
 -- a candidate's rank
@@ -27,8 +27,8 @@ pub record First {R : Type 0} (first : R → R → Bool) (ranks : ℕ → ℤ �
   pub before : List Candidate
   pub after : List Candidate
   pub stands : l ≡ before ++ (c ∷ after)
-  pub strictly : All (λ x. first (rank_of ranks c) (rank_of ranks x) ≡ true) before
-  pub weakly : All (λ x. (first (rank_of ranks c) (rank_of ranks x) ≡ true) ⊎ (rank_of ranks c ≡ rank_of ranks x)) after
+  pub strictly : AllByRecursion (λ x. first (rank_of ranks c) (rank_of ranks x) ≡ true) before
+  pub weakly : AllByRecursion (λ x. (first (rank_of ranks c) (rank_of ranks x) ≡ true) ⊎ (rank_of ranks c ≡ rank_of ranks x)) after
 
 -- what is chosen is first; nothing is chosen only where there is no candidate
 abbrev pub Chosen : {R : Type 0} → (R → R → Bool) → (ℕ → ℤ → ℕ → R) → List Candidate → Option Candidate → Type 0

@@ -1,7 +1,7 @@
 -- The candidate is what the rules say, and nothing else is. Assumes nothing.
 use Rattle.std.proofs.Common.{◌≡◌, ℕ, Bool, true, false, cond, ◌&&◌, ◌||◌, eqb, ltb, List, [], ◌∷◌, ◌++◌, Some, None, Option, sym, refl, ap, ◌∙◌, subst, append_assoc, append-nil, arith}
 use borrow.Author.Tests.{clash}
-use Rattle.std.specs.List.{AllByRecursion as All}
+use Rattle.std.specs.List.{AllByRecursion}
 use Rattle.std.proofs.ByRecursion.{All-append, All-push, All-weaker}
 use Rattle.std.proofs.lemmas.Bool.Decides.{nat_tests}
 use Rattle.model.specs.Scale.{scale}
@@ -81,14 +81,14 @@ held_all pre (r ∷ rows) h k =
     ]
 
 -- of two heaviest of one list neither stands earlier
-beaten : (c d y : Row) (after mid end : List Row) → c ∷ after ≡ y ∷ (mid ++ (d ∷ end)) → All (λ x. heavier x c ≡ false) after → heavier d y ≡ true → ⊥
+beaten : (c d y : Row) (after mid end : List Row) → c ∷ after ≡ y ∷ (mid ++ (d ∷ end)) → AllByRecursion (λ x. heavier x c ≡ false) after → heavier d y ≡ true → ⊥
 beaten c d y after mid end e w h =
     let Lighter : Row → Type 0 = λ x. heavier x c ≡ false in
     let same : y ≡ c = cc in let rest : after ≡ mid ++ (d ∷ end) = cc in
-    clash (sym (all_middle Lighter mid d end (subst (All Lighter) rest w)) ∙ subst (λ x. heavier d x ≡ true) same h)
+    clash (sym (all_middle Lighter mid d end (subst (AllByRecursion Lighter) rest w)) ∙ subst (λ x. heavier d x ≡ true) same h)
 
 agree : (c d : Row) (b a b' a' : List Row) → b ++ (c ∷ a) ≡ b' ++ (d ∷ a') →
-    All (λ x. heavier c x ≡ true) b → All (λ x. heavier x c ≡ false) a → All (λ x. heavier d x ≡ true) b' → All (λ x. heavier x d ≡ false) a' → c ≡ d
+    AllByRecursion (λ x. heavier c x ≡ true) b → AllByRecursion (λ x. heavier x c ≡ false) a → AllByRecursion (λ x. heavier d x ≡ true) b' → AllByRecursion (λ x. heavier x d ≡ false) a' → c ≡ d
 agree c d [] a [] a' e s w t v = cc
 agree c d [] a (y ∷ b') a' e s w t v = absurd (beaten c d y a b' a' e w t.0)
 agree c d (y ∷ b) a [] a' e s w t v = absurd (beaten d c y a' b a (sym e) v s.0)

@@ -1,6 +1,6 @@
 -- Which reservation is to be gathered on a processor, by the rules. Assumes nothing.
 use Rattle.std.specs.Prelude.{◌≡◌, true, false, List, [], ◌∷◌, ◌++◌, filter}
-use Rattle.std.specs.List.{AllByRecursion as All}
+use Rattle.std.specs.List.{AllByRecursion}
 use Rattle.model.specs.declared.row.Row.{Row}
 use Rattle.processor.specs.Keys.{is_tail}
 use Rattle.processor.specs.Gathering.{is_head, heavier}
@@ -18,8 +18,8 @@ pub record Heaviest (heads : List Row) (row : Row) : Type 0 where
   pub before : List Row
   pub after : List Row
   pub stands : heads ≡ before ++ (row ∷ after)
-  pub strictly : All (λ y. heavier row y ≡ true) before
-  pub weakly : All (λ y. heavier y row ≡ false) after
+  pub strictly : AllByRecursion (λ y. heavier row y ≡ true) before
+  pub weakly : AllByRecursion (λ y. heavier y row ≡ false) after
 
 -- a row of the reservation that is to be gathered on a processor: the tail there (the first, if a plan had several), else the heaviest head
 pub data Candidate (rows : List Row) (row : Row) : Type 0 where

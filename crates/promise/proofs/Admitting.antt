@@ -1,6 +1,6 @@
 -- An admission keeps what every call keeps. Assumes nothing.
 use Rattle.std.proofs.Common.{◌≡◌, ℕ, ◌-◌, ◌<◌, ◌≤◌, Bool, true, false, ◌||◌, eqb, ◌⊎◌, List, [], ◌∷◌, ◌++◌, Ok, sym, refl, ap, ◌∙◌, subst, subst₂, inl, inr, ⊎_elim, add-zero, arith, eq-eqb, eqb-true}
-use Rattle.std.specs.List.{ContainsAt as Has, AllByRecursion as All}
+use Rattle.std.specs.List.{ContainsAt as Has, AllByRecursion}
 use Rattle.std.proofs.lemmas.List.{append-nil, map-append}
 use Rattle.std.proofs.lemmas.List.Elements.{filter-append}
 use Rattle.std.proofs.ByRecursion.{All-weaker, All-append, has_get_or}
@@ -49,7 +49,7 @@ lies_first plan x o h = by_cases o h.on h.shows
         let kept = has_of_kept (λ row. eqb row.key x.key) rows y.row (subst (λ r. Has r y.row) (sym shown) (has_here y.row (rows_on y.processor l))) in
         (y.processor, on, (y.row, kept.0, eqb-true y.row.key x.key kept.1, is))
 
-    by_cases : (o' : Layout) → All (λ y. On plan y.processor) (layout_rows x.key o') → ((p : ℕ) → On plan p → of_key x.key (rows_at plan p) ≡ rows_on p (layout_rows x.key o'))
+    by_cases : (o' : Layout) → AllByRecursion (λ y. On plan y.processor) (layout_rows x.key o') → ((p : ℕ) → On plan p → of_key x.key (rows_at plan p) ≡ rows_on p (layout_rows x.key o'))
         → (p : ℕ) × On plan p × ((row : Row) × Has (rows_at plan p) row × (row.key ≡ x.key) × (is_tail row.kind ≡ false))
     by_cases (layout p t []) on shows = found (layout_first x.key p t []) [] refl on.0 (shows p on.0)
     by_cases (layout p t (y ∷ cuts)) on shows = found (layout_first x.key p t (y ∷ cuts)) (tails x.key 1 (y ∷ cuts)) refl on.0 (shows p on.0)
@@ -75,7 +75,7 @@ stands_found plan k s =
     (any_has (λ r. eqb r.key k) (rows_at plan s.0) row s.1.1.1 (eq-eqb row.key k s.1.1.2))
 
 -- rows of another key, added on different processors
-module _ (plan : Plan) (k : ℕ) (l : List Placed) (ons : All (λ y. On plan y.processor) l) (keys : All (λ y. y.row.key ≡ k) l) where
+module _ (plan : Plan) (k : ℕ) (l : List Placed) (ons : AllByRecursion (λ y. On plan y.processor) l) (keys : AllByRecursion (λ y. y.row.key ≡ k) l) where
   pub on_back : {p : ℕ} → On (written plan l) p → On plan p
   on_back {p} h = record { from_one = h.from_one; to_last = subst (λ n. p ≤ n) (length_adds plan l) h.to_last }
 
@@ -132,13 +132,13 @@ module _ {R : Type 0} (m : Meaning R) (law : Lawful m) (plan : Plan) (accepted :
       l : List Placed
       l = layout_rows k o
 
-      taken : All (Taken m plan t) l
+      taken : AllByRecursion (Taken m plan t) l
       taken = layout_taken m plan t c d p₀ h k cuts good
 
-      ons : All (λ y. On plan y.processor) l
+      ons : AllByRecursion (λ y. On plan y.processor) l
       ons = All-weaker (Taken m plan t) (λ y. On plan y.processor) (λ y h. h.0) l taken
 
-      keys : All (λ y. y.row.key ≡ k) l
+      keys : AllByRecursion (λ y. y.row.key ≡ k) l
       keys = layout_keys k o
 
       apart : Distinct (processors l)
@@ -165,7 +165,7 @@ module _ {R : Type 0} (m : Meaning R) (law : Lawful m) (plan : Plan) (accepted :
         comes_to = layout_comes m plan t (reserved k c d t) p₀ h cuts refl le good;
       }
 
-      owned : (p : ℕ) → On plan p → All (Owned (reserved k c d t ∷ accepted)) (rows_at (written plan l) p)
+      owned : (p : ℕ) → On plan p → AllByRecursion (Owned (reserved k c d t ∷ accepted)) (rows_at (written plan l) p)
       owned p on = rw (rows_adds plan l p ons on)
           (All-append (Owned (reserved k c d t ∷ accepted)) (rows_at plan p) (rows_on p l)
           (All-weaker (Owned accepted) (Owned (reserved k c d t ∷ accepted)) (λ row f. record { owner = f.owner; among = has_there (reserved k c d t) accepted f.owner f.among; key = f.key }) (rows_at plan p) (kept.owned p on))

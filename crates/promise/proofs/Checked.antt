@@ -1,7 +1,7 @@
 -- What a plan has that breaks no rule of plans, and what a load that is not refused leaves. Assumes nothing.
 use Rattle.std.proofs.Common.{◌≡◌, ℕ, ◌+◌, ◌≤◌, Bool, true, false, cond, not, ◌&&◌, ◌||◌, eqb, ltb, List, [], ◌∷◌, map, Some, None, Ok, Err, Option, Result, sym, refl, ap, ◌∙◌, ⊎_elim, arith}
 use Rattle.std.proofs.lemmas.Bool.{eq-eqb, eqb-true, ltb-false, and_cases, or_parts, not-false, true≢false}
-use Rattle.std.specs.List.{AllByRecursion as All}
+use Rattle.std.specs.List.{AllByRecursion}
 use Rattle.model.specs.declared.timing.Timing.{Timing}
 use Rattle.model.specs.declared.row.Kind.{Kind}
 use Rattle.model.specs.declared.row.Row.{Row}
@@ -33,14 +33,14 @@ module _ (bad : ℕ → Bool) where
             (and_cases (eqb lowest 0 || ltb key lowest) (bad key) is),
       )
 
-  lowest_in_none : (lowest : ℕ) (rows : List Row) → All (λ row. row.key ≡ 0 → ⊥) rows → lowest_in bad lowest rows ≡ 0 → (lowest ≡ 0) × All (λ row. bad row.key ≡ false) rows
+  lowest_in_none : (lowest : ℕ) (rows : List Row) → AllByRecursion (λ row. row.key ≡ 0 → ⊥) rows → lowest_in bad lowest rows ≡ 0 → (lowest ≡ 0) × AllByRecursion (λ row. bad row.key ≡ false) rows
   lowest_in_none lowest [] some e = (e, tt)
   lowest_in_none lowest (row ∷ rows) some e =
       let rest = lowest_in_none (lower bad lowest row.key) rows some.1 e in
       let here = lower_none lowest row.key some.0 rest.0 in
       (here.0, (here.1, rest.1))
 
-  lowest_of_none : (lowest : ℕ) (plan : Plan) → All (All (λ row. row.key ≡ 0 → ⊥)) plan → lowest_of bad lowest plan ≡ 0 → (lowest ≡ 0) × All (All (λ row. bad row.key ≡ false)) plan
+  lowest_of_none : (lowest : ℕ) (plan : Plan) → AllByRecursion (AllByRecursion (λ row. row.key ≡ 0 → ⊥)) plan → lowest_of bad lowest plan ≡ 0 → (lowest ≡ 0) × AllByRecursion (AllByRecursion (λ row. bad row.key ≡ false)) plan
   lowest_of_none lowest [] some e = (e, tt)
   lowest_of_none lowest (rows ∷ plan) some e =
       let rest = lowest_of_none (lowest_in bad lowest rows) plan some.1 e in
@@ -48,7 +48,7 @@ module _ (bad : ℕ → Bool) where
       (here.0, (here.1, rest.1))
 
 -- no key is bad, and they are at most 64
-pub keys_sound : (plan : Plan) → All (All (λ row. row.key ≡ 0 → ⊥)) plan → key_fault plan ≡ None → All (All (λ row. bad_key plan row.key ≡ false)) plan × (keys plan ≤ 64)
+pub keys_sound : (plan : Plan) → AllByRecursion (AllByRecursion (λ row. row.key ≡ 0 → ⊥)) plan → key_fault plan ≡ None → AllByRecursion (AllByRecursion (λ row. bad_key plan row.key ≡ false)) plan × (keys plan ≤ 64)
 keys_sound plan some e =
     let lowest = lowest_of (bad_key plan) 0 plan in
     let a = cond_none (not (eqb lowest 0)) (fault BufferRule.Key lowest) (cond (ltb 64 (keys plan)) (Some (fault BufferRule.Keys 0)) None) e in
@@ -70,12 +70,12 @@ reservations_keys [] = refl
 reservations_keys (rows ∷ plan) = omega (arith, owners_firsts rows, reservations_keys plan)
 
 -- the judge accepts every processor's rows
-pub judge_sound : (accepts : List Timing → Bool) (p : ℕ) (plan : Plan) → judge_fault accepts p plan ≡ None → All (λ rows. accepts (timings rows) ≡ true) plan
+pub judge_sound : (accepts : List Timing → Bool) (p : ℕ) (plan : Plan) → judge_fault accepts p plan ≡ None → AllByRecursion (λ rows. accepts (timings rows) ≡ true) plan
 judge_sound accepts p [] e = tt
 judge_sound accepts p (rows ∷ plan) e = go (accepts (timings rows)) refl e (judge_sound accepts (p + 1) plan)
   where
     go : (b : Bool) → accepts (timings rows) ≡ b → cond b (judge_fault accepts (p + 1) plan) (Some (fault BufferRule.Judge p)) ≡ None
-        → (judge_fault accepts (p + 1) plan ≡ None → All (λ r. accepts (timings r) ≡ true) plan) → All (λ r. accepts (timings r) ≡ true) (rows ∷ plan)
+        → (judge_fault accepts (p + 1) plan ≡ None → AllByRecursion (λ r. accepts (timings r) ≡ true) plan) → AllByRecursion (λ r. accepts (timings r) ≡ true) (rows ∷ plan)
     go true is e' rest = (is, rest e')
     go false is e' rest = let z : ◌≡◌ {A = ℕ} 0 1 = cc in absurd (omega arith)
 

@@ -4,7 +4,7 @@ use Rattle.std.proofs.lemmas.Bool.{or_parts}
 use Rattle.std.proofs.ByRecursion.{all_kept_by}
 use Rattle.board.specs.Setup.{unfit}
 use lib.ListN.{length-replicate}
-use Rattle.std.specs.List.{AllByRecursion as All}
+use Rattle.std.specs.List.{AllByRecursion}
 use Rattle.model.specs.declared.timing.Timing.{Timing}
 use Rattle.model.specs.declared.row.Kind.{Kind}
 use Rattle.model.specs.declared.row.Row.{Row}
@@ -151,8 +151,8 @@ module _ {R : Type 0} (m : Meaning R) (law : Lawful m) where
   admitted_key plan k c d t rows next (whole x p new first e same) = let low : k < 1 → ⊥ = λ h. new.faultless RequestFault.Key (inl h) in omega arith
   admitted_key plan k c d t rows next (split x rows' new nobody splits e same) = let low : k < 1 → ⊥ = λ h. new.faultless RequestFault.Key (inl h) in omega arith
 
-  keyed_derived : (plan : Plan) (accepted : List Reservation) (call : Call) (answer : Answer) (next : Plan) → All (λ x. 1 ≤ x.key) accepted → Derived m plan call answer next
-      → All (λ x. 1 ≤ x.key) (accepted_next accepted call answer)
+  keyed_derived : (plan : Plan) (accepted : List Reservation) (call : Call) (answer : Answer) (next : Plan) → AllByRecursion (λ x. 1 ≤ x.key) accepted → Derived m plan call answer next
+      → AllByRecursion (λ x. 1 ≤ x.key) (accepted_next accepted call answer)
   keyed_derived plan accepted (Call.Admit k c d t) (Answer.Admitted (Ok a)) next keyed h = (admitted_key plan k c d t (made_rows a) next h, keyed)
   keyed_derived plan accepted (Call.Admit k c d t) (Answer.Admitted (Err f)) next keyed h = keyed
   keyed_derived plan accepted (Call.Admit k c d t) (Answer.Withdrawn r) next keyed h = absurd h
@@ -171,10 +171,10 @@ module _ {R : Type 0} (m : Meaning R) (law : Lawful m) where
   record Keeps (plan last : Plan) (accepted : List Reservation) : Type 0 where
     kept : Kept m last accepted
     count : length last ≡ length plan
-    keyed : All (λ x. 1 ≤ x.key) accepted
+    keyed : AllByRecursion (λ x. 1 ≤ x.key) accepted
 
   kept_history : {plan last : Plan} {calls : List Call} {answers : List Answer} → History m plan calls answers last → (accepted : List Reservation) → 1 ≤ length plan
-      → Kept m plan accepted → All (λ x. 1 ≤ x.key) accepted → Keeps plan last (accepted_after accepted calls answers)
+      → Kept m plan accepted → AllByRecursion (λ x. 1 ≤ x.key) accepted → Keeps plan last (accepted_after accepted calls answers)
   kept_history begins accepted some kept keyed = record { kept = kept; count = refl; keyed = keyed }
   kept_history (goes_on {plan = plan} {next = next} {call = call} {answer = answer} d rest) accepted some kept keyed =
       let step = kept_derived plan accepted call answer next some kept d in

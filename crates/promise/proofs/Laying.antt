@@ -2,7 +2,7 @@
 use Rattle.std.proofs.Common.{◌≡◌, ℕ, zero, suc, ◌+◌, ◌<◌, ◌≤◌, Bool, true, false, cond, not, ◌&&◌, ◌||◌, eqb, ltb, leb, ◌⊎◌, List, [], ◌∷◌, length, is_some, sym, refl, ap, ◌∙◌, subst, inl, inr, arith}
 use lib.ListN.{length-map}
 use Rattle.std.proofs.lemmas.Bool.{eq-eqb, ne_eqb, eqb-true, eqb-false, leb-true, ltb-false, and_parts, or_parts, not-true, not-false, false≢true}
-use Rattle.std.specs.List.{ContainsAt as Has, AllByRecursion as All}
+use Rattle.std.specs.List.{ContainsAt as Has, AllByRecursion}
 use Rattle.model.specs.declared.timing.Timing.{Timing}
 use Rattle.model.specs.declared.row.Kind.{Kind}
 use Rattle.model.specs.declared.row.Row.{Row}
@@ -38,7 +38,7 @@ tail_sound row j is sound =
 abbrev Piece : ℕ → Placed → Type 0
 Piece t y = (kind_number y.row.kind ≡ 0 → ⊥) × (y.row.timing.period ≡ t)
 
-alike_all : (t : ℕ) (l : List Placed) → alike t (rows_of l) ≡ true → All (Piece t) l
+alike_all : (t : ℕ) (l : List Placed) → alike t (rows_of l) ≡ true → AllByRecursion (Piece t) l
 alike_all t [] e = tt
 alike_all t (y ∷ l) e =
     let a = and_parts (piece t y.row) (alike t (rows_of l)) e in
@@ -65,7 +65,7 @@ part_counts j (y ∷ l) z has is = go (has_cases y l z has) (λ h. part_counts j
     go (inl e) rest = omega (arith, ap {B = ℕ} (λ b. cond b 1 0) (eq-eqb (part y.row.kind) j (ap (λ w. part w.row.kind) e ∙ is)))
     go (inr h) rest = omega (arith, rest h)
 
-tails_cuts : (P : Timing → Type 0) (k j : ℕ) (cuts : List Cut) → All (λ y. P y.row.timing) (tails k j cuts) → All (λ c. P c.timing) cuts
+tails_cuts : (P : Timing → Type 0) (k j : ℕ) (cuts : List Cut) → AllByRecursion (λ y. P y.row.timing) (tails k j cuts) → AllByRecursion (λ c. P c.timing) cuts
 tails_cuts P k j [] all = tt
 tails_cuts P k j (c ∷ cuts) all = (all.0, tails_cuts P k (j + 1) cuts all.1)
 
@@ -120,8 +120,8 @@ module _ (plan : Plan) (k : ℕ) where
   tail_kind (Kind.Tail j) some later = refl
 
   -- the head and its sorted tails
-  lay_head : (t : ℕ) (l : List Placed) (h : Placed) (rest : List Placed) (cuts : List Cut) → All Fine l → All (Piece t) l → Shown l → Distinct (processors l) → stretch (rows_of l) ≤ t
-      → Out h l rest → h.row.kind ≡ Kind.Head → All (TailOf k) rest
+  lay_head : (t : ℕ) (l : List Placed) (h : Placed) (rest : List Placed) (cuts : List Cut) → AllByRecursion Fine l → AllByRecursion (Piece t) l → Shown l → Distinct (processors l) → stretch (rows_of l) ≤ t
+      → Out h l rest → h.row.kind ≡ Kind.Head → AllByRecursion (TailOf k) rest
       → ((p : ℕ) → rows_on p rest ≡ rows_on p (tails k 1 cuts)) → ((y : Placed) → Has (tails k 1 cuts) y → Has rest y) → Distinct (processors (tails k 1 cuts)) → tail_budgets cuts ≡ stretch (rows_of rest)
       → 0 < length cuts → (o : Layout) × Lies plan (laid_out k o) o
   lay_head t l h rest [] fine pieces shown apart fits out is tail shows from apart' budgets some = absurd (omega arith)
@@ -159,7 +159,7 @@ module _ (plan : Plan) (k : ℕ) where
       head_stretch : stretch_of h.row ≡ h.row.timing.deadline
       head_stretch = ap (λ kind. cond (eqb (kind_number kind) 2) h.row.timing.budget h.row.timing.deadline) is
 
-  lay_split : (t : ℕ) (l : List Placed) → 1 < length l → All Fine l → Shown l → Distinct (processors l) → split_of t (rows_of l) ≡ true → (o : Layout) × Lies plan (laid_out k o) o
+  lay_split : (t : ℕ) (l : List Placed) → 1 < length l → AllByRecursion Fine l → Shown l → Distinct (processors l) → split_of t (rows_of l) ≡ true → (o : Layout) × Lies plan (laid_out k o) o
   lay_split t l two fine shown apart is =
       lay_head t l h rest s.cuts fine pieces shown apart (leb-true (stretch (rows_of l)) t more.1) out head tail s.shows s.from s.apart s.budgets (omega (arith, s.count, out_length out))
     where
@@ -169,7 +169,7 @@ module _ (plan : Plan) (k : ℕ) where
       more : (once_each (length (rows_of l)) (rows_of l) ≡ true) × (leb (stretch (rows_of l)) t ≡ true)
       more = and_parts (once_each (length (rows_of l)) (rows_of l)) (leb (stretch (rows_of l)) t) both.1
 
-      pieces : All (Piece t) l
+      pieces : AllByRecursion (Piece t) l
       pieces = alike_all t l both.0
 
       once : (i : ℕ) → i < length l → times i (rows_of l) ≡ 1
@@ -193,7 +193,7 @@ module _ (plan : Plan) (k : ℕ) where
       none : times 0 (rows_of rest) ≡ 0
       none = omega (arith, once 0 (omega arith), out_times out 0, ap {B = ℕ} (λ b. cond b 1 0) (eq-eqb (part h.row.kind) 0 found.3))
 
-      tail : All (TailOf k) rest
+      tail : AllByRecursion (TailOf k) rest
       tail = all_from_has (TailOf k) rest (λ y has. (
         (all_one Fine l y fine (out_still out y has)).key,
         tail_kind y.row.kind (all_one (Piece t) l y pieces (out_still out y has)).0 (λ first. omega (arith, none, part_counts 0 rest y has first)),
@@ -203,7 +203,7 @@ module _ (plan : Plan) (k : ℕ) where
       s = sorted k 1 (length rest) rest tail (out_apart out apart).1 refl (λ i le lt.
           omega (arith, once i (omega (arith, out_length out)), out_times out i, ap {B = ℕ} (λ b. cond b 1 0) (ne_eqb (part h.row.kind) i (λ e. omega (arith, found.3, e)))))
 
-  pub lay : (l : List Placed) → All Fine l → Shown l → Distinct (processors l) → one_reservation (rows_of l) ≡ true → (o : Layout) × Lies plan (laid_out k o) o
+  pub lay : (l : List Placed) → AllByRecursion Fine l → Shown l → Distinct (processors l) → one_reservation (rows_of l) ≡ true → (o : Layout) × Lies plan (laid_out k o) o
   lay [] fine shown apart is = absurd (false≢true is)
   lay (y ∷ []) fine shown apart is = lay_whole y fine.0 shown (whole_kind y.row.kind is)
   lay (y ∷ (z ∷ l)) fine shown apart is = lay_split y.row.timing.period (y ∷ (z ∷ l)) (omega arith) fine shown apart is

@@ -1,6 +1,6 @@
 -- Standing in a list, and lists others repetition. Assumes nothing.
 use Rattle.std.proofs.Common.{◌≡◌, ℕ, zero, suc, ◌<◌, Bool, true, false, cond, eqb, ◌⊎◌, List, [], ◌∷◌, map, length, filter, sym, refl, ap, ◌∙◌, subst, inl, inr, ⊎_elim, true≢false, arith, eq-eqb, ne_eqb, eqb-true}
-use Rattle.std.specs.List.{ContainsAt as Has, HoldsAt, AllByRecursion as All}
+use Rattle.std.specs.List.{ContainsAt as Has, HoldsAt, AllByRecursion}
 use Rattle.model.specs.declared.row.Row.{Row}
 use Rattle.promise.specs.Layout.{Distinct}
 use Rattle.promise.specs.Plan.{rows_on, of_key}
@@ -25,11 +25,11 @@ module _ {X : Type 0} where
       go (suc k) lt at = inr (k, omega arith, at)
 
   -- what holds of each holds of one
-  pub all_one : (P : X → Type 0) (l : List X) (y : X) → All P l → Has l y → P y
+  pub all_one : (P : X → Type 0) (l : List X) (y : X) → AllByRecursion P l → Has l y → P y
   all_one P [] y all h = absurd (has_none y h)
   all_one P (x ∷ l) y all h = ⊎_elim (λ e. subst P e all.0) (λ k. all_one P l y all.1 k) (has_cases x l y h)
 
-  pub all_from_has : (P : X → Type 0) (l : List X) → ((y : X) → Has l y → P y) → All P l
+  pub all_from_has : (P : X → Type 0) (l : List X) → ((y : X) → Has l y → P y) → AllByRecursion P l
   all_from_has P [] h = tt
   all_from_has P (x ∷ l) h = (h x (has_here x l), all_from_has P l (λ y k. h y (has_there x l y k)))
 
@@ -67,20 +67,20 @@ module _ {X Y : Type 0} (f : X → Y) where
       ⊎_elim (λ e. (x, has_here x l, e)) (λ k. let r = has_of_map l z k in (r.0, has_there x l r.0 r.1, r.2)) (has_cases (f x) (map f l) z h)
 
 -- the rows of a key among rows of which none, or every one, has it
-pub of_key_none : (k : ℕ) (rows : List Row) → All (λ row. row.key ≡ k → ⊥) rows → of_key k rows ≡ []
+pub of_key_none : (k : ℕ) (rows : List Row) → AllByRecursion (λ row. row.key ≡ k → ⊥) rows → of_key k rows ≡ []
 of_key_none k [] none = refl
 of_key_none k (row ∷ rows) none = rw (ne_eqb row.key k none.0) (of_key_none k rows none.1)
 
-pub of_key_all : (k : ℕ) (rows : List Row) → All (λ row. row.key ≡ k) rows → of_key k rows ≡ rows
+pub of_key_all : (k : ℕ) (rows : List Row) → AllByRecursion (λ row. row.key ≡ k) rows → of_key k rows ≡ rows
 of_key_all k [] all = refl
 of_key_all k (row ∷ rows) all = rw (eq-eqb row.key k all.0) (ap (λ l. row ∷ l) (of_key_all k rows all.1))
 
 -- what holds of placed rows holds of those on one processor
-pub rows_on_all : (P : Row → Type 0) (q : ℕ) (l : List Placed) → All (λ y. P y.row) l → All P (rows_on q l)
+pub rows_on_all : (P : Row → Type 0) (q : ℕ) (l : List Placed) → AllByRecursion (λ y. P y.row) l → AllByRecursion P (rows_on q l)
 rows_on_all P q [] all = tt
 rows_on_all P q (y ∷ l) all = go (eqb y.processor q) (rows_on_all P q l all.1)
   where
-    go : (b : Bool) → All P (rows_on q l) → All P (cond b (y.row ∷ rows_on q l) (rows_on q l))
+    go : (b : Bool) → AllByRecursion P (rows_on q l) → AllByRecursion P (cond b (y.row ∷ rows_on q l) (rows_on q l))
     go true rest = (all.0, rest)
     go false rest = rest
 

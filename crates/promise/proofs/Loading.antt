@@ -2,7 +2,7 @@
 use Rattle.std.proofs.Common.{◌≡◌, ℕ, ◌+◌, ◌-◌, ◌<◌, ◌≤◌, Bool, true, false, cond, not, ◌&&◌, ◌||◌, eqb, ltb, ◌⊎◌, List, [], ◌∷◌, map, length, get_or, is_some, None, Ok, filter, sym, refl, ap, ◌∙◌, subst, inl, inr, ⊎_elim, arith}
 use Rattle.std.proofs.lemmas.Bool.{eq-eqb, eqb-false, and_parts, or_parts, not-true, not-false, true≢false}
 use Rattle.std.proofs.ByRecursion.{All-get_or, All-from_get_or, All-map, all_kept_by, All-weaker}
-use Rattle.std.specs.List.{ContainsAt as Has, AllByRecursion as All}
+use Rattle.std.specs.List.{ContainsAt as Has, AllByRecursion}
 use Rattle.model.specs.declared.timing.Timing.{Timing}
 use Rattle.model.specs.declared.row.Kind.{Kind}
 use Rattle.model.specs.declared.row.Row.{Row}
@@ -80,7 +80,7 @@ layout_tails k (layout p x []) = refl
 layout_tails k (layout p x (c ∷ cuts)) = omega (arith, tails_sum k 1 (c ∷ cuts))
 
 -- its row that is no tail has its first timing
-tails_are : (k j : ℕ) (cuts : List Cut) → All (λ y. is_tail y.row.kind ≡ true) (tails k j cuts)
+tails_are : (k j : ℕ) (cuts : List Cut) → AllByRecursion (λ y. is_tail y.row.kind ≡ true) (tails k j cuts)
 tails_are k j [] = tt
 tails_are k j (c ∷ cuts) = (refl, tails_are k (j + 1) cuts)
 
@@ -141,9 +141,9 @@ module _ (all : List Entry) (plan : Plan) (recorded : Recorded all plan) (no_fau
   sound_row : (i : ℕ) (row : Row) → i < length plan → Has (get_or plan i []) row → bad_entry (entry row) ≡ false
   sound_row i row lt has = all_one (λ e. bad_entry e ≡ false) all (entry row) recorded.sound (row_recorded all plan recorded i row lt has)
 
-  rules : All (All (λ row. bad_key plan row.key ≡ false)) plan × (keys plan ≤ 64)
+  rules : AllByRecursion (AllByRecursion (λ row. bad_key plan row.key ≡ false)) plan × (keys plan ≤ 64)
   rules = keys_sound plan
-      (All-from_get_or (All (λ row. row.key ≡ 0 → ⊥)) plan [] (λ i lt. all_from_has (λ row. row.key ≡ 0 → ⊥) (get_or plan i []) (λ row has. entry_keyed (entry row) (sound_row i row lt has)))) no_fault
+      (All-from_get_or (AllByRecursion (λ row. row.key ≡ 0 → ⊥)) plan [] (λ i lt. all_from_has (λ row. row.key ≡ 0 → ⊥) (get_or plan i []) (λ row has. entry_keyed (entry row) (sound_row i row lt has)))) no_fault
 
   -- the rows of a key that stands are a layout
   laid_key : (i : ℕ) (row : Row) → i < length plan → Has (get_or plan i []) row → (o : Layout) × Lies plan (laid_out row.key o) o
@@ -155,12 +155,12 @@ module _ (all : List Entry) (plan : Plan) (recorded : Recorded all plan) (no_fau
       k = row.key
 
       good : bad_key plan k ≡ false
-      good = all_one (λ r. bad_key plan r.key ≡ false) (get_or plan i []) row (All-get_or (All (λ r. bad_key plan r.key ≡ false)) plan i [] lt rules.0) has
+      good = all_one (λ r. bad_key plan r.key ≡ false) (get_or plan i []) row (All-get_or (AllByRecursion (λ r. bad_key plan r.key ≡ false)) plan i [] lt rules.0) has
 
       both : (apart k plan ≡ true) × (one_reservation (pieces k plan) ≡ true)
       both = and_parts (apart k plan) (one_reservation (pieces k plan)) (not-false (apart k plan && one_reservation (pieces k plan)) good)
 
-      fine : All (Fine plan k) (spots k 1 plan)
+      fine : AllByRecursion (Fine plan k) (spots k 1 plan)
       fine = all_from_has (Fine plan k) (spots k 1 plan) (λ y h.
           let s = all_one (Spot k 1 plan) (spots k 1 plan) y (spots_stand k 1 plan) h in
           record {
@@ -265,7 +265,7 @@ kept_loads m bytes plan after loaded = (
     rules_kept = plan_sound m.accepts after taken.1
 
 -- the keys of its reservations are not 0
-pub keyed_loads : (accepts : List Timing → Bool) (bytes : List ℕ) (plan after : Plan) → Loaded accepts bytes plan (Ok tt) after → All (λ x. 1 ≤ x.key) (stored_reservations bytes)
+pub keyed_loads : (accepts : List Timing → Bool) (bytes : List ℕ) (plan after : Plan) → Loaded accepts bytes plan (Ok tt) after → AllByRecursion (λ x. 1 ≤ x.key) (stored_reservations bytes)
 keyed_loads accepts bytes plan after loaded =
     let all = records bytes in
     let taken = taken_sound accepts (entries (length plan) bytes) plan after loaded in

@@ -3,7 +3,7 @@ use Rattle.std.proofs.Common.{◌≡◌, ℕ, ◌+◌, ◌-◌, ◌<◌, ◌≤�
 use mathlib.Core.List.{reverse_aux}
 use native.Mathlib.Decide.{dec_le}
 use lib.ListN.{length-map}
-use Rattle.std.specs.List.{ContainsAt as Has, AllByRecursion as All}
+use Rattle.std.specs.List.{ContainsAt as Has, AllByRecursion}
 use Rattle.std.proofs.lemmas.List.{reverse-append}
 use Rattle.model.specs.declared.timing.Timing.{Timing}
 use Rattle.model.specs.Scale.{scale}
@@ -37,7 +37,7 @@ pub record GoodLayout {R : Type 0} (m : Meaning R) (plan : Plan) (t c d : ℕ) (
   pub yes_with : m.accepts (timings (rows_at plan p) ++ (x ∷ [])) ≡ true
   pub alone : Has (tail_processors cuts) p → ⊥
   pub apart : Distinct (tail_processors cuts)
-  pub tails : All (GoodTail m plan t) cuts
+  pub tails : AllByRecursion (GoodTail m plan t) cuts
   pub budget : x.budget + tail_budgets cuts ≡ c
   pub deadline : x.deadline + tail_budgets cuts ≡ d
   pub period : x.period ≡ t
@@ -71,7 +71,7 @@ module _ {R : Type 0} (m : Meaning R) (law : Lawful m) (plan : Plan) (key : ℕ)
   -- the tails set so far, in serving order
   pub record GoodCuts (t : ℕ) (cuts : List Cut) : Type 0 where
     pub apart : Distinct (tail_processors cuts)
-    pub tails : All (GoodTail m plan t) cuts
+    pub tails : AllByRecursion (GoodTail m plan t) cuts
 
   -- the one that is set
   abbrev newest : {cuts : List Cut} {x : Timing} {grown : List Cut} {head : Timing} → Sets m.before m.rank m.accepts m.allows plan key cuts x grown head → Cut

@@ -3,7 +3,7 @@ use Rattle.std.proofs.Common.{◌≡◌, ℕ, zero, suc, ◌+◌, ◌-◌, ◌<�
 use lib.ListN.{length-replicate, length-map}
 use Rattle.std.proofs.lemmas.Bool.{cond_both, eq-eqb, eqb-true, eqb-false, ltb-false, or_parts, and_parts, not-false}
 use native.Mathlib.Decide.{dec_lt}
-use Rattle.std.specs.List.{ContainsAt as Has, AllByRecursion as All}
+use Rattle.std.specs.List.{ContainsAt as Has, AllByRecursion}
 use Rattle.model.specs.declared.row.Row.{Row}
 use Rattle.store.specs.declared.entry.Entry.{Entry}
 use Rattle.store.specs.declared.fault.BufferFault.{BufferFault}
@@ -164,7 +164,7 @@ header_ok m bytes e =
     let d = cond_none (ltb 256 (record_count bytes)) (fault BufferRule.Length 0) _ c.1 in
     (eqb-true (byte_at bytes 1) m (not-false (eqb (byte_at bytes 1) m) c.0), ltb-false 256 (record_count bytes) d.0)
 
-records_ok : (says : ℕ → Entry) (r n : ℕ) → record_fault says r n ≡ None → All (λ e. bad_entry e ≡ false) (says_from says r n)
+records_ok : (says : ℕ → Entry) (r n : ℕ) → record_fault says r n ≡ None → AllByRecursion (λ e. bad_entry e ≡ false) (says_from says r n)
 unfolding record_fault
 records_ok says zero n e = tt
 records_ok says (suc r) n e =
@@ -174,7 +174,7 @@ records_ok says (suc r) n e =
 -- a plan of just the rows that records say, none of which is bad
 pub record Recorded (all : List Entry) (plan : Plan) : Type 0 where
   pub sums : (f : Entry → ℕ) → sum_all (λ row. f (entry row)) plan ≡ sum_by f all
-  pub sound : All (λ e. bad_entry e ≡ false) all
+  pub sound : AllByRecursion (λ e. bad_entry e ≡ false) all
 
 pub entries_recorded : (m : ℕ) (bytes : List ℕ) (plan : Plan) → entries m bytes ≡ Ok (map (map entry) plan) → Recorded (records bytes) plan × (length plan ≡ m)
 entries_recorded m bytes plan e =

@@ -1,7 +1,7 @@
 -- What adding and removing rows leaves on each processor. Assumes nothing.
 use Rattle.std.proofs.Common.{◌≡◌, ℕ, ◌-◌, Bool, true, false, cond, eqb, ◌≢◌, List, [], ◌∷◌, ◌++◌, length, sym, refl, ap, ◌∙◌, subst, append_assoc, arith, length-set, get_or-set_other, get_or-set_same, eqb-true}
 use borrow.Author.Tests.{eqb-false}
-use Rattle.std.specs.List.{AllByRecursion as All}
+use Rattle.std.specs.List.{AllByRecursion}
 use Rattle.std.proofs.lemmas.List.{get_or-map, append-nil}
 use Rattle.std.proofs.ByRecursion.{All-weaker}
 use Rattle.promise.specs.Plan.{Plan, On, rows_at, add, rows_on}
@@ -25,7 +25,7 @@ rows_add_other plan x p on on' apart =
     get_or-set_other plan (x.processor - 1) (p - 1) (rows_at plan x.processor ++ (x.row ∷ [])) [] (let a = on.from_one in let b = on'.from_one in omega arith)
 
 -- each processor gets just the rows that are placed on it
-pub rows_adds : (plan : Plan) (l : List Placed) (p : ℕ) → All (λ x. On plan x.processor) l → On plan p → rows_at (written plan l) p ≡ rows_at plan p ++ rows_on p l
+pub rows_adds : (plan : Plan) (l : List Placed) (p : ℕ) → AllByRecursion (λ x. On plan x.processor) l → On plan p → rows_at (written plan l) p ≡ rows_at plan p ++ rows_on p l
 rows_adds plan [] p ons on = sym (append-nil (rows_at plan p))
 rows_adds plan (x ∷ l) p ons on =
     rows_adds (add plan x) l p (All-weaker (λ y. On plan y.processor) (λ y. On (add plan x) y.processor) (λ y h. on_add x h) l ons.1) (on_add x on)

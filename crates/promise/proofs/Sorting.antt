@@ -1,7 +1,7 @@
 -- Rows on different processors, put in the order of their parts. Assumes nothing.
 use Rattle.std.proofs.Common.{◌≡◌, ℕ, zero, suc, ◌+◌, ◌<◌, ◌≤◌, Bool, true, false, cond, eqb, ◌⊎◌, List, [], ◌∷◌, map, length, sym, refl, ap, ◌∙◌, subst, inl, inr, ⊎_elim, arith}
 use Rattle.std.proofs.lemmas.Bool.{ne_eqb, eqb-true}
-use Rattle.std.specs.List.{ContainsAt as Has, AllByRecursion as All}
+use Rattle.std.specs.List.{ContainsAt as Has, AllByRecursion}
 use Rattle.model.specs.declared.row.Kind.{Kind}
 use Rattle.model.specs.declared.row.Row.{Row}
 use Rattle.model.specs.Row.{kind_number, part}
@@ -104,7 +104,7 @@ pub record Sorted (key j : ℕ) (l : List Placed) : Type 0 where
 tail_stretch : (y : Placed) (j : ℕ) → y.row.kind ≡ Kind.Tail j → stretch_of y.row ≡ y.row.timing.budget
 tail_stretch y j e = ap (λ kind. cond (eqb (kind_number kind) 2) y.row.timing.budget y.row.timing.deadline) e
 
-pub sorted : (key j n : ℕ) (l : List Placed) → All (TailOf key) l → Distinct (processors l) → length l ≡ n
+pub sorted : (key j n : ℕ) (l : List Placed) → AllByRecursion (TailOf key) l → Distinct (processors l) → length l ≡ n
     → ((i : ℕ) → j ≤ i → i < j + n → times i (rows_of l) ≡ 1) → Sorted key j l
 sorted key j zero [] all apart len once = record { cuts = []; shows = λ p. refl; from = λ y h. h; apart = tt; budgets = refl; count = refl }
 sorted key j zero (x ∷ l) all apart len once = absurd (omega arith)
@@ -113,7 +113,7 @@ sorted key j (suc n) l all apart len once =
     let y = found.0 in
     let k = found.1 in
     let out = found.2 in
-    let others : All (TailOf key) k = all_from_has (TailOf key) k (λ z h. all_one (TailOf key) l z all (out_still out z h)) in
+    let others : AllByRecursion (TailOf key) k = all_from_has (TailOf key) k (λ z h. all_one (TailOf key) l z all (out_still out z h)) in
     let split = out_apart out apart in
     let rest = sorted key (j + 1) n k others split.1 (omega (arith, out_length out))
     (λ i le lt. omega (

@@ -3,7 +3,7 @@ use Rattle.std.proofs.Common.{◌≡◌, ℕ, zero, suc, ◌+◌, ◌-◌, ◌<�
 use Rattle.std.proofs.lemmas.Bool.{eq-eqb, ne_eqb, eqb-true, leb-true, and_parts}
 use Rattle.std.proofs.lemmas.List.{append-nil, map-append}
 use Rattle.std.proofs.ByRecursion.{All-append, All-map, All-weaker}
-use Rattle.std.specs.List.{ContainsAt as Has, AllByRecursion as All}
+use Rattle.std.specs.List.{ContainsAt as Has, AllByRecursion}
 use Rattle.model.specs.declared.row.Row.{Row}
 use Rattle.board.specs.declared.admission.Placed.{Placed}
 use Rattle.store.specs.Keys.{pieces, apart}
@@ -40,7 +40,7 @@ pub record Spot (k p : ℕ) (plan : Plan) (y : Placed) : Type 0 where
   pub has : Has (get_or plan place []) y.row
   pub key : y.row.key ≡ k
 
-pub spots_stand : (k p : ℕ) (plan : Plan) → All (Spot k p plan) (spots k p plan)
+pub spots_stand : (k p : ℕ) (plan : Plan) → AllByRecursion (Spot k p plan) (spots k p plan)
 spots_stand k p [] = tt
 spots_stand k p (rows ∷ plan) =
     All-append (Spot k p (rows ∷ plan)) (map (at p) (of_key k rows)) (spots k (p + 1) plan)
@@ -50,7 +50,7 @@ spots_stand k p (rows ∷ plan) =
     (All-weaker (Spot k (p + 1) plan) (Spot k p (rows ∷ plan)) (λ y s.
     record { place = suc s.place; within = omega (arith, s.within); is = omega (arith, s.is); has = s.has; key = s.key }) (spots k (p + 1) plan) (spots_stand k (p + 1) plan))
 
-spots_later : (k p : ℕ) (plan : Plan) → All (λ y. p ≤ y.processor) (spots k p plan)
+spots_later : (k p : ℕ) (plan : Plan) → AllByRecursion (λ y. p ≤ y.processor) (spots k p plan)
 spots_later k p plan = All-weaker (Spot k p plan) (λ y. p ≤ y.processor) (λ y s. omega (arith, s.is)) (spots k p plan) (spots_stand k p plan)
 
 rows_on_append : (q : ℕ) (l m : List Placed) → rows_on q (l ++ m) ≡ rows_on q l ++ rows_on q m
@@ -62,7 +62,7 @@ rows_on_append q (y ∷ l) m = go (eqb y.processor q) (rows_on_append q l m)
     go true rest = ap (λ r. y.row ∷ r) rest
     go false rest = rest
 
-rows_on_none : (q : ℕ) (l : List Placed) → All (λ y. y.processor ≡ q → ⊥) l → rows_on q l ≡ []
+rows_on_none : (q : ℕ) (l : List Placed) → AllByRecursion (λ y. y.processor ≡ q → ⊥) l → rows_on q l ≡ []
 rows_on_none q [] all = refl
 rows_on_none q (y ∷ l) all = rw (ne_eqb y.processor q all.0) (rows_on_none q l all.1)
 
@@ -70,7 +70,7 @@ rows_on_here : (q p : ℕ) (rows : List Row) → p ≡ q → rows_on q (map (at 
 rows_on_here q p [] e = refl
 rows_on_here q p (row ∷ rows) e = rw (eq-eqb p q e) (ap (λ l. row ∷ l) (rows_on_here q p rows e))
 
-all_at : (P : Placed → Type 0) (p : ℕ) (rows : List Row) → ((row : Row) → P (at p row)) → All P (map (at p) rows)
+all_at : (P : Placed → Type 0) (p : ℕ) (rows : List Row) → ((row : Row) → P (at p row)) → AllByRecursion P (map (at p) rows)
 all_at P p [] h = tt
 all_at P p (row ∷ rows) h = (h row, all_at P p rows h)
 

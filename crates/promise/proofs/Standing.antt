@@ -1,6 +1,6 @@
 -- How adding rows changes the number of reservations that stand. Assumes nothing.
 use Rattle.std.proofs.Common.{◌≡◌, ℕ, zero, suc, ◌+◌, ◌-◌, ◌<◌, cond, List, [], ◌∷◌, ◌++◌, length, get_or, set, refl, arith}
-use Rattle.std.specs.List.{AllByRecursion as All}
+use Rattle.std.specs.List.{AllByRecursion}
 use Rattle.std.proofs.ByRecursion.{All-weaker}
 use Rattle.model.specs.declared.row.Row.{Row}
 use Rattle.promise.specs.Layout.{Layout, layout, layout_rows}
@@ -38,7 +38,7 @@ abbrev pub ones : List Placed → ℕ
 ones [] = 0
 ones (y ∷ l) = one y.row + ones l
 
-pub standing_adds : (plan : Plan) (l : List Placed) → All (λ y. On plan y.processor) l → reservations (written plan l) ≡ reservations plan + ones l
+pub standing_adds : (plan : Plan) (l : List Placed) → AllByRecursion (λ y. On plan y.processor) l → reservations (written plan l) ≡ reservations plan + ones l
 standing_adds plan [] ons = omega arith
 standing_adds plan (y ∷ l) ons =
     omega (

@@ -3,7 +3,7 @@ use Rattle.std.proofs.Common.{◌≡◌, ℕ, zero, suc, ◌+◌, ◌-◌, ◌<�
 use lib.ListN.{length-map}
 use Rattle.std.proofs.lemmas.Bool.{eq-eqb, ne_eqb, eqb-true, le-leb, leb-true, and_parts, and_from, cases_eq}
 use Rattle.std.proofs.ByRecursion.{All-from_get_or, All-append, All-weaker}
-use Rattle.std.specs.List.{ContainsAt as Has, AllByRecursion as All}
+use Rattle.std.specs.List.{ContainsAt as Has, AllByRecursion}
 use Rattle.model.specs.declared.row.Row.{Row}
 use Rattle.model.specs.Row.{kind_number, part, timings}
 use Rattle.runs.specs.Plan.{Reservation, total}
@@ -35,11 +35,11 @@ module _ (g : Row → ℕ) where
   lies_sum : (plan : Plan) (x : Reservation) (o : Layout) → Lies plan x o → sum_rows g (pieces x.key plan) ≡ sum_placed g (layout_rows x.key o)
   lies_sum plan x o lies = pieces_sum x.key plan ∙ total_shown g x.key plan (layout_rows x.key o) lies.on lies.shows
 
-  none_all : (rows : List Row) → sum_rows g rows ≡ 0 → All (λ row. g row ≡ 0) rows
+  none_all : (rows : List Row) → sum_rows g rows ≡ 0 → AllByRecursion (λ row. g row ≡ 0) rows
   none_all [] e = tt
   none_all (row ∷ rows) e = (omega arith, none_all rows (omega arith))
 
-  placed_none : (l : List Placed) → All (λ y. g y.row ≡ 0) l → sum_placed g l ≡ 0
+  placed_none : (l : List Placed) → AllByRecursion (λ y. g y.row ≡ 0) l → sum_placed g l ≡ 0
   placed_none [] all = refl
   placed_none (y ∷ l) all = omega (arith, all.0, placed_none l all.1)
 
@@ -51,8 +51,8 @@ passes : (b : Bool) → ◌≡◌ {A = ℕ} (cond b 0 1) 0 → b ≡ true
 passes true e = refl
 passes false e = absurd (omega arith)
 
-lies_all : (test : Row → Bool) (plan : Plan) (x : Reservation) (o : Layout) → Lies plan x o → All (λ y. test y.row ≡ true) (layout_rows x.key o)
-    → All (λ row. test row ≡ true) (pieces x.key plan)
+lies_all : (test : Row → Bool) (plan : Plan) (x : Reservation) (o : Layout) → Lies plan x o → AllByRecursion (λ y. test y.row ≡ true) (layout_rows x.key o)
+    → AllByRecursion (λ row. test row ≡ true) (pieces x.key plan)
 lies_all test plan x o lies all =
     All-weaker (λ row. fails test row ≡ 0) (λ row. test row ≡ true) (λ row. passes (test row)) (pieces x.key plan)
     (none_all (fails test) (pieces x.key plan)
@@ -107,16 +107,16 @@ once_from zero rows once = refl
 once_from (suc n) rows once =
     and_from (eqb (times n rows) 1) (once_each n rows) (eq-eqb (times n rows) 1 (once n (omega arith))) (once_from n rows (λ j lt. once j (omega arith)))
 
-alike_from : (t : ℕ) (rows : List Row) → All (λ row. piece t row ≡ true) rows → alike t rows ≡ true
+alike_from : (t : ℕ) (rows : List Row) → AllByRecursion (λ row. piece t row ≡ true) rows → alike t rows ≡ true
 alike_from t [] all = refl
 alike_from t (row ∷ rows) all = and_from (piece t row) (alike t rows) all.0 (alike_from t rows all.1)
 
-tails_pieces : (k a t : ℕ) (cuts : List Cut) → All (λ y. (y.timing.deadline ≡ y.timing.budget) × (y.timing.period ≡ t)) cuts → All (λ y. piece t y.row ≡ true) (tails k a cuts)
+tails_pieces : (k a t : ℕ) (cuts : List Cut) → AllByRecursion (λ y. (y.timing.deadline ≡ y.timing.budget) × (y.timing.period ≡ t)) cuts → AllByRecursion (λ y. piece t y.row ≡ true) (tails k a cuts)
 tails_pieces k a t [] all = tt
 tails_pieces k a t (c ∷ cuts) all = (eq-eqb c.timing.period t all.0.1, tails_pieces k (a + 1) t cuts all.1)
 
 -- the rows of a key make one reservation
-by_period : (t : ℕ) (rows : List Row) → 2 ≤ length rows → All (λ row. piece t row ≡ true) rows → once_each (length rows) rows ≡ true → stretch rows ≤ t → one_reservation rows ≡ true
+by_period : (t : ℕ) (rows : List Row) → 2 ≤ length rows → AllByRecursion (λ row. piece t row ≡ true) rows → once_each (length rows) rows ≡ true → stretch rows ≤ t → one_reservation rows ≡ true
 by_period t [] two all once fits = absurd (omega arith)
 by_period t (row ∷ []) two all once fits = absurd (omega arith)
 by_period t (row ∷ (next ∷ rows)) two all once fits =
@@ -125,7 +125,7 @@ by_period t (row ∷ (next ∷ rows)) two all once fits =
     subst (λ q. split_of q l ≡ true) period
     (and_from (alike t l) (once_each (length l) l && leb (stretch l) t) (alike_from t l all) (and_from (once_each (length l) l) (leb (stretch l) t) once (le-leb (stretch l) t fits)))
 
-by_whole : (rows : List Row) → length rows ≡ 1 → All (λ row. eqb (kind_number row.kind) 0 ≡ true) rows → one_reservation rows ≡ true
+by_whole : (rows : List Row) → length rows ≡ 1 → AllByRecursion (λ row. eqb (kind_number row.kind) 0 ≡ true) rows → one_reservation rows ≡ true
 by_whole [] one all = absurd (omega arith)
 by_whole (row ∷ []) one all = all.0
 by_whole (row ∷ (next ∷ rows)) one all = absurd (omega arith)
@@ -197,12 +197,12 @@ apart_few k (rows ∷ plan) e =
 
 -- each is one that a record can say
 fine_tails : (k a t : ℕ) (cuts : List Cut) → 1 ≤ k → 1 ≤ a → a + length cuts ≤ 8
-    → All (λ y. (y.timing.deadline ≡ y.timing.budget) × (y.timing.period ≡ t)) cuts → All (λ y. Sayable y.row) (tails k a cuts)
+    → AllByRecursion (λ y. (y.timing.deadline ≡ y.timing.budget) × (y.timing.period ≡ t)) cuts → AllByRecursion (λ y. Sayable y.row) (tails k a cuts)
 fine_tails k a t [] key low high all = tt
 fine_tails k a t (c ∷ cuts) key low high all =
     ((key, (low, omega arith, sym all.0.0)), fine_tails k (a + 1) t cuts key (omega arith) (omega arith) all.1)
 
-lies_fine : (plan : Plan) (x : Reservation) (o : Layout) → length plan ≤ 8 → 1 ≤ x.key → Lies plan x o → All (λ y. Sayable y.row) (layout_rows x.key o)
+lies_fine : (plan : Plan) (x : Reservation) (o : Layout) → length plan ≤ 8 → 1 ≤ x.key → Lies plan x o → AllByRecursion (λ y. Sayable y.row) (layout_rows x.key o)
 lies_fine plan x (layout p h []) eight key lies = ((key, tt), tt)
 lies_fine plan x (layout p h (y ∷ cuts)) eight key lies =
     let o = layout p h (y ∷ cuts) in
@@ -211,7 +211,7 @@ lies_fine plan x (layout p h (y ∷ cuts)) eight key lies =
     ((key, tt), fine_tails x.key 1 x.period (y ∷ cuts) key (omega arith) (omega (arith, length_tails x.key 1 (y ∷ cuts))) lies.comes_to.3)
 
 module _ {R : Type 0} (m : Meaning R) (law : Lawful m) (plan : Plan) (accepted : List Reservation) (kept : Kept m plan accepted)
-    (eight : length plan ≤ 8) (keyed : All (λ x. 1 ≤ x.key) accepted) where
+    (eight : length plan ≤ 8) (keyed : AllByRecursion (λ x. 1 ≤ x.key) accepted) where
   -- a row, by the reservation that owns it
   row_fine : (i : ℕ) (row : Row) → i < length plan → Has (get_or plan i []) row → Sayable row × (bad_key plan row.key ≡ false)
   row_fine i row lt has =
@@ -228,7 +228,7 @@ module _ {R : Type 0} (m : Meaning R) (law : Lawful m) (plan : Plan) (accepted :
         ap (bad_key plan) (sym own.key) ∙ lies_good plan x laid.0 laid.1,
       )
     where
-      among : (q : ℕ) (row : Row) (l : List Placed) → Distinct (processors l) → All (λ y. Sayable y.row) l → Has (rows_on q l) row → Sayable row
+      among : (q : ℕ) (row : Row) (l : List Placed) → Distinct (processors l) → AllByRecursion (λ y. Sayable y.row) l → Has (rows_on q l) row → Sayable row
       among q row l apart' fine h = go (rows_on_cases q l apart')
         where
           go : (rows_on q l ≡ []) ⊎ ((y : Placed) × Has l y × (y.processor ≡ q) × (rows_on q l ≡ y.row ∷ [])) → Sayable row
@@ -237,14 +237,14 @@ module _ {R : Type 0} (m : Meaning R) (law : Lawful m) (plan : Plan) (accepted :
               let same : y.0.row ≡ row = ⊎_elim (λ e. e) (λ h'. absurd (has_none row h')) (has_cases y.0.row [] row (subst (λ k. Has k row) y.3 h)) in
               subst Sayable same (all_one (λ z. Sayable z.row) l y.0 fine y.1)
 
-  all_rows : (P : Row → Type 0) → ((i : ℕ) (row : Row) → i < length plan → Has (get_or plan i []) row → P row) → All (All P) plan
-  all_rows P each = All-from_get_or (All P) plan [] (λ i lt. all_from_has P (get_or plan i []) (λ row has. each i row lt has))
+  all_rows : (P : Row → Type 0) → ((i : ℕ) (row : Row) → i < length plan → Has (get_or plan i []) row → P row) → AllByRecursion (AllByRecursion P) plan
+  all_rows P each = All-from_get_or (AllByRecursion P) plan [] (λ i lt. all_from_has P (get_or plan i []) (λ row has. each i row lt has))
 
-  all_flat : (P : Row → Type 0) (q : Plan) → All (All P) q → All P (all_of q)
+  all_flat : (P : Row → Type 0) (q : Plan) → AllByRecursion (AllByRecursion P) q → AllByRecursion P (all_of q)
   all_flat P [] all = tt
   all_flat P (rows ∷ q) all = All-append P rows (all_of q) all.0 (all_flat P q all.1)
 
-  each_judged : All (λ rows. m.accepts (timings rows) ≡ true) plan
+  each_judged : AllByRecursion (λ rows. m.accepts (timings rows) ≡ true) plan
   each_judged = All-from_get_or (λ rows. m.accepts (timings rows) ≡ true) plan [] (λ i lt.
       let back : i + 1 - 1 ≡ i = omega arith in
       subst (λ j. m.accepts (timings (get_or plan j [])) ≡ true) back (kept.judged (i + 1) (on_place plan i lt)))

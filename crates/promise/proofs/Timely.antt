@@ -1,6 +1,6 @@
 -- On a plan that keeps the invariant nobody is late. Assumes nothing.
 use Rattle.std.proofs.Common.{◌≡◌, ℕ, suc, ◌+◌, ◌-◌, eqb, List, [], ◌∷◌, get_or, sym, refl, subst, inl, inr, ⊎_elim, arith, eq-eqb}
-use Rattle.std.specs.List.{ContainsAt as Has, AllByRecursion as All}
+use Rattle.std.specs.List.{ContainsAt as Has, AllByRecursion}
 use Rattle.std.proofs.ByRecursion.{All-from_get_or}
 use Rattle.model.specs.declared.row.Row.{Row}
 use Rattle.model.specs.Row.{timings}
@@ -21,12 +21,12 @@ use Rattle.board.specs.Split.{tails}
 abbrev pub Tight : Reservation → Row → Type 0
 Tight x row = (x.period ≡ row.timing.period) × (span row ≡ row.timing.deadline)
 
-tails_tight : (x : Reservation) (k j : ℕ) (cuts : List Cut) → All (λ y. (y.timing.deadline ≡ y.timing.budget) × (y.timing.period ≡ x.period)) cuts
-    → All (λ y. Tight x y.row) (tails k j cuts)
+tails_tight : (x : Reservation) (k j : ℕ) (cuts : List Cut) → AllByRecursion (λ y. (y.timing.deadline ≡ y.timing.budget) × (y.timing.period ≡ x.period)) cuts
+    → AllByRecursion (λ y. Tight x y.row) (tails k j cuts)
 tails_tight x k j [] h = tt
 tails_tight x k j (y ∷ cuts) h = ((sym h.0.1, sym h.0.0), tails_tight x k (j + 1) cuts h.1)
 
-pub layout_tight : (x : Reservation) (k : ℕ) (o : Layout) → ComesTo x o → All (λ y. Tight x y.row) (layout_rows k o)
+pub layout_tight : (x : Reservation) (k : ℕ) (o : Layout) → ComesTo x o → AllByRecursion (λ y. Tight x y.row) (layout_rows k o)
 layout_tight x k (layout p t []) h = ((sym h.2, refl), tt)
 layout_tight x k (layout p t (y ∷ cuts)) h = ((sym h.2, refl), tails_tight x k 1 (y ∷ cuts) h.3)
 
@@ -45,7 +45,7 @@ owned_by (z ∷ accepted) x row has is = ⊎_elim (λ e. inl (subst (λ w. RowOf
 
 module _ {R : Type 0} (m : Meaning R) (law : Lawful m) (plan : Plan) (accepted : List Reservation) (kept : Kept m plan accepted) where
   -- what holds on each processor holds of each list
-  each : (P : List Row → Type 0) → ((p : ℕ) → On plan p → P (rows_at plan p)) → All P plan
+  each : (P : List Row → Type 0) → ((p : ℕ) → On plan p → P (rows_at plan p)) → AllByRecursion P plan
   each P h = All-from_get_or P plan [] (λ i lt. subst (λ j. P (get_or plan j [])) (let e : suc i - 1 ≡ i = omega arith in e) (h (suc i) (record { from_one = omega arith; to_last = lt })))
 
   -- the owner of a row, and that it is tight
@@ -58,8 +58,8 @@ module _ {R : Type 0} (m : Meaning R) (law : Lawful m) (plan : Plan) (accepted :
 
   pub kept_plan_for : PlanFor accepted plan
   kept_plan_for = record {
-    owned = each (All (OwnedRow accepted)) (λ p on. all_from_has (OwnedRow accepted) (rows_at plan p) (λ row has. (row_for p on row has).0));
-    tight = each (All NoSlack) (λ p on. all_from_has NoSlack (rows_at plan p) (λ row has. (row_for p on row has).1));
+    owned = each (AllByRecursion (OwnedRow accepted)) (λ p on. all_from_has (OwnedRow accepted) (rows_at plan p) (λ row has. (row_for p on row has).0));
+    tight = each (AllByRecursion NoSlack) (λ p on. all_from_has NoSlack (rows_at plan p) (λ row has. (row_for p on row has).1));
     sums = all_from_has (AddsUp plan) accepted (λ x has.
         let laid = all_one (λ z. (o : Layout) × Lies plan z o) accepted x kept.laid has in
         record { budget = lies_budget plan x laid.0 laid.1; deadline = lies_deadline plan x laid.0 laid.1 });

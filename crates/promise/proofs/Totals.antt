@@ -1,7 +1,7 @@
 -- The rows of a reservation that lies on a plan sum to its layout. Assumes nothing.
 use Rattle.std.proofs.Common.{◌≡◌, ℕ, zero, suc, ◌+◌, ◌<◌, ◌≤◌, Bool, true, false, cond, eqb, List, [], ◌∷◌, length, get_or, refl, ap, ◌∙◌, subst, arith, ne_eqb, eqb-true}
 use borrow.Author.Tests.{eqb-false}
-use Rattle.std.specs.List.{AllByRecursion as All}
+use Rattle.std.specs.List.{AllByRecursion}
 use Rattle.std.proofs.ByRecursion.{All-weaker}
 use Rattle.model.specs.declared.timing.Timing.{Timing}
 use Rattle.model.specs.declared.row.Row.{Row}
@@ -77,13 +77,13 @@ module _ (g : Row → ℕ) where
       go true rest = omega arith
       go false rest = omega arith
 
-  spread_all : (l : List Placed) (n : ℕ) → All (λ y. (0 < y.processor) × (y.processor ≤ n)) l → spread l 0 n ≡ sum_placed l
+  spread_all : (l : List Placed) (n : ℕ) → AllByRecursion (λ y. (0 < y.processor) × (y.processor ≤ n)) l → spread l 0 n ≡ sum_placed l
   spread_all [] n within = spread_none 0 n
   spread_all (y ∷ l) n within =
       omega (arith, spread_more y l 0 n, spot_in y.processor (g y.row) 0 n within.0.0 (omega (arith, within.0.1)), spread_all l n within.1)
 
   -- the sum over the rows of a key, by what the plan shows of it
-  pub total_shown : (k : ℕ) (plan : Plan) (l : List Placed) → All (λ y. On plan y.processor) l
+  pub total_shown : (k : ℕ) (plan : Plan) (l : List Placed) → AllByRecursion (λ y. On plan y.processor) l
       → ((p : ℕ) → On plan p → of_key k (rows_at plan p) ≡ rows_on p l) → total (λ p i r. g r) k plan ≡ sum_placed l
   total_shown k plan l ons shows =
       spread_plan k l plan 0 (λ i q lt e. subst (λ j. of_key k (get_or plan j []) ≡ rows_on q l) (omega arith) (shows q (record { from_one = omega arith; to_last = omega arith })))

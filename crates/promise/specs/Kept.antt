@@ -1,6 +1,6 @@
 -- What every call keeps of a plan, for the reservations that it is for. Assumes nothing.
 use Rattle.std.specs.Prelude.{◌≡◌, ℕ, ◌+◌, ◌≤◌, true, not, List, map, filter, ◌==◌}
-use Rattle.std.specs.List.{ContainsAt as Has, AllByRecursion as All}
+use Rattle.std.specs.List.{ContainsAt as Has, AllByRecursion}
 use Rattle.model.specs.declared.row.Row.{Row}
 use Rattle.model.specs.Row.{timings}
 use Rattle.runs.specs.Plan.{Reservation}
@@ -17,11 +17,11 @@ processors = map (λ y. y.processor)
 abbrev pub ComesTo : Reservation → Layout → Type 0
 ComesTo x (layout p h tails) =
     (h.budget + tail_budgets tails ≡ x.budget) × (h.deadline + tail_budgets tails ≡ x.deadline) × (h.period ≡ x.period)
-    × All (λ y. (y.timing.deadline ≡ y.timing.budget) × (y.timing.period ≡ x.period)) tails × (x.deadline ≤ x.period)
+    × AllByRecursion (λ y. (y.timing.deadline ≡ y.timing.budget) × (y.timing.period ≡ x.period)) tails × (x.deadline ≤ x.period)
 
 -- the rows of a reservation are one whole, or one head and tails numbered from 1, on different processors of the plan, and they add up to it
 pub record Lies (plan : Plan) (x : Reservation) (o : Layout) : Type 0 where
-  pub on : All (λ y. On plan y.processor) (layout_rows x.key o)
+  pub on : AllByRecursion (λ y. On plan y.processor) (layout_rows x.key o)
   pub apart : Distinct (processors (layout_rows x.key o))
   pub shows : (p : ℕ) → On plan p → of_key x.key (rows_at plan p) ≡ rows_on p (layout_rows x.key o)
   pub comes_to : ComesTo x o
@@ -43,6 +43,6 @@ pub record Owned (accepted : List Reservation) (row : Row) : Type 0 where
 pub record Kept {R : Type 0} (m : Meaning R) (plan : Plan) (accepted : List Reservation) : Type 0 where
   pub judged : (p : ℕ) → On plan p → m.accepts (timings (rows_at plan p)) ≡ true
   pub distinct : Distinct (map (λ x. x.key) accepted)
-  pub laid : All (λ x. (o : Layout) × Lies plan x o) accepted
-  pub owned : (p : ℕ) → On plan p → All (Owned accepted) (rows_at plan p)
+  pub laid : AllByRecursion (λ x. (o : Layout) × Lies plan x o) accepted
+  pub owned : (p : ℕ) → On plan p → AllByRecursion (Owned accepted) (rows_at plan p)
   pub most : reservations plan ≤ 64

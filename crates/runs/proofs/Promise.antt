@@ -1,6 +1,6 @@
 -- From each processor to the board. Assumes nothing.
 use Rattle.std.proofs.Common.{◌≡◌, ℕ, zero, suc, ◌+◌, ◌<◌, ◌≤◌, List, [], ◌∷◌, map, length, get_or, Some, ap, ◌∙◌, subst, ⊎_elim, arith}
-use Rattle.std.specs.List.{AllByRecursion as All, slice_get}
+use Rattle.std.specs.List.{AllByRecursion, slice_get}
 use Rattle.std.proofs.ByRecursion.{All-weaker}
 use Rattle.model.specs.declared.row.Row.{Row}
 use Rattle.model.specs.Row.{part, timings}
@@ -15,7 +15,7 @@ use Rattle.runs.proofs.Timely.{every_piece_in_time}
 use Rattle.runs.proofs.Totals.{Rows, total_same}
 use Rattle.runs.proofs.Offsets.{due_all}
 
-all_nth : {X : Type 0} (P : X → Type 0) (l : List X) (i : ℕ) (x : X) → slice_get l i ≡ Some x → All P l → P x
+all_nth : {X : Type 0} (P : X → Type 0) (l : List X) (i : ℕ) (x : X) → slice_get l i ≡ Some x → AllByRecursion P l → P x
 all_nth P [] i x e h = let z : ◌≡◌ {A = ℕ} 0 1 = cc in absurd (omega arith)
 all_nth P (y ∷ l) zero x e h = let s : y ≡ x = cc in subst P s h.0
 all_nth P (y ∷ l) (suc i) x e h = all_nth P l i x e h.1
@@ -56,7 +56,7 @@ module _ (accepted : List Reservation) (plan : List (List Row)) (pattern : Patte
       spaced : (k : ℕ) → suc k < length (pattern r.key) → release pattern r.key k + r.timing.period ≤ release pattern r.key (suc k)
       spaced k b = apart_at r.timing.period (pattern r.key) (owned_apart pattern r accepted own legal) k b
 
-  streams : (rows : List Row) → All (Owned accepted) rows → All Tight rows → StreamsOf (timings rows) (map (pieces plan pattern) rows)
+  streams : (rows : List Row) → AllByRecursion (Owned accepted) rows → AllByRecursion Tight rows → StreamsOf (timings rows) (map (pieces plan pattern) rows)
   streams [] own tight = none
   streams (r ∷ rows) own tight = more (row_stream r own.0 tight.0) (streams rows own.1 tight.1)
 
@@ -65,7 +65,7 @@ pub work_row : (plan : List (List Row)) (pattern : Pattern) (p i : ℕ) (rows : 
     row (work plan pattern p) i ≡ pieces plan pattern r
 work_row plan pattern p i rows r e e' = rw (getD_nth plan p rows [] e) (row_nth (pieces plan pattern) rows i r e')
 
-module _ (accepted : List Reservation) (plan : List (List Row)) (stands : PlanFor accepted plan) (fits : All (λ rows. DemandFits (timings rows)) plan)
+module _ (accepted : List Reservation) (plan : List (List Row)) (stands : PlanFor accepted plan) (fits : AllByRecursion (λ rows. DemandFits (timings rows)) plan)
     (pattern : Pattern) (legal : Legal accepted pattern) (run : ℕ → ℕ → Slot) (rule : BoardRun plan pattern run) where
   pub in_time : (p i : ℕ) (rows : List Row) (r : Row) → slice_get plan p ≡ Some rows → slice_get rows i ≡ Some r →
       (k : ℕ) → k < length (pattern r.key) → InTime (work plan pattern p) (run p) i k
@@ -75,7 +75,7 @@ module _ (accepted : List Reservation) (plan : List (List Row)) (stands : PlanFo
       (rw at (all_nth (λ rows. DemandFits (timings rows)) plan p rows e fits))
       (work plan pattern p)
       (streams accepted plan pattern legal (get_or plan p [])
-      (rw at (all_nth (All (Owned accepted)) plan p rows e stands.owned)) (rw at (all_nth (All Tight) plan p rows e stands.tight)))
+      (rw at (all_nth (AllByRecursion (Owned accepted)) plan p rows e stands.owned)) (rw at (all_nth (AllByRecursion Tight) plan p rows e stands.tight)))
       (run p) 0 (record { before = λ t l. absurd (none_below t l); starts = λ j m l. omega arith })
       i k (rw (work_row plan pattern p i rows r e e') b) (λ t l l'. rule p t)
     where

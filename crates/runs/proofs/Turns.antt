@@ -1,6 +1,6 @@
 -- The parts of an instance are served one after the other. Assumes nothing.
 use Rattle.std.proofs.Common.{◌≡◌, ℕ, ◌+◌, ◌<◌, ◌≤◌, cond, eqb, List, length, Some, sym, refl, ⊎_elim, arith}
-use Rattle.std.specs.List.{AllByRecursion as All, slice_get}
+use Rattle.std.specs.List.{AllByRecursion, slice_get}
 use Rattle.std.proofs.lemmas.Bool.{eq-eqb, cases_order, cases_lt}
 use Rattle.model.specs.declared.row.Row.{Row}
 use Rattle.model.specs.Row.{part, timings}
@@ -23,7 +23,7 @@ same_part plan once p i q j rows rows' r r' e d e' d' same parts b =
     let two = total_two r'.key plan (λ p i x. cond (eqb (part x.kind) (part r'.kind)) 1 0) p i q j rows rows' r r' b e d same e' d' refl in
     omega (arith, rw (one, self) at two, once r'.key (part r'.kind))
 
-module _ (accepted : List Reservation) (plan : List (List Row)) (stands : PlanFor accepted plan) (fits : All (λ rows. DemandFits (timings rows)) plan)
+module _ (accepted : List Reservation) (plan : List (List Row)) (stands : PlanFor accepted plan) (fits : AllByRecursion (λ rows. DemandFits (timings rows)) plan)
     (pattern : Pattern) (legal : Legal accepted pattern) (run : ℕ → ℕ → Slot) (rule : BoardRun plan pattern run) where
   -- what is served has started, and is not yet due
   record Open (r : Row) (k t : ℕ) : Type 0 where

@@ -1,6 +1,6 @@
 -- What is promised of a whole board: no instance of an accepted reservation is late. Assumes nothing.
 use Rattle.std.specs.Prelude.{◌≡◌, ℕ, ◌+◌, ◌<◌, ◌≤◌, cond, ◌⊎◌, List, [], ◌∷◌, length, Some, ◌==◌}
-use Rattle.std.specs.List.{AllByRecursion as All, slice_get}
+use Rattle.std.specs.List.{AllByRecursion, slice_get}
 use Rattle.model.specs.declared.row.Row.{Row}
 use Rattle.model.specs.Row.{part, timings}
 use Rattle.runs.specs.Run.{Slot, serves, served, EarliestDeadline, InTime}
@@ -28,9 +28,9 @@ pub record AddsUp (plan : List (List Row)) (x : Reservation) : Type 0 where
 
 -- a plan for the accepted reservations: each row is owned, tails have no slack, and the rows of each add up to it
 pub record PlanFor (accepted : List Reservation) (plan : List (List Row)) : Type 0 where
-  pub owned : All (All (Owned accepted)) plan
-  pub tight : All (All Tight) plan
-  pub sums : All (AddsUp plan) accepted
+  pub owned : AllByRecursion (AllByRecursion (Owned accepted)) plan
+  pub tight : AllByRecursion (AllByRecursion Tight) plan
+  pub sums : AllByRecursion (AddsUp plan) accepted
 
 -- neighbours are at least a period apart
 abbrev pub Apart : ℕ → List ℕ → Type 0
@@ -40,7 +40,7 @@ Apart period (a ∷ (b ∷ l)) = (a + period ≤ b) × Apart period (b ∷ l)
 
 -- a legal pattern releases each accepted reservation at most once in a period
 abbrev pub Legal : List Reservation → Pattern → Type 0
-Legal accepted pattern = All (λ x. Apart x.period (pattern x.key)) accepted
+Legal accepted pattern = AllByRecursion (λ x. Apart x.period (pattern x.key)) accepted
 
 -- A run of the board names for each processor and tick one piece or none. It starts idle at tick 0, and each processor keeps the rule.
 abbrev pub BoardRun : List (List Row) → Pattern → (ℕ → ℕ → Slot) → Type 0
@@ -57,13 +57,13 @@ pub record GetsBudget (plan : List (List Row)) (pattern : Pattern) (run : ℕ �
 abbrev pub NeverLate : List Reservation → List (List Row) → Type 0
 NeverLate accepted plan =
     (pattern : Pattern) → Legal accepted pattern → (run : ℕ → ℕ → Slot) → BoardRun plan pattern run →
-    All (λ x. (k : ℕ) → k < length (pattern x.key) → GetsBudget plan pattern run x k) accepted
+    AllByRecursion (λ x. (k : ℕ) → k < length (pattern x.key) → GetsBudget plan pattern run x k) accepted
 
 -- Where a plan is for the accepted reservations, and the demand of each processor's rows fits, nobody is late.
 abbrev pub BoardNeverLate : Type 0
 BoardNeverLate =
     (accepted : List Reservation) (plan : List (List Row)) → PlanFor accepted plan →
-    All (λ rows. DemandFits (timings rows)) plan → NeverLate accepted plan
+    AllByRecursion (λ rows. DemandFits (timings rows)) plan → NeverLate accepted plan
 
 -- no part of a key stands twice on the plan: it has one whole or one head, and one tail of a number
 abbrev pub PartsOnce : List (List Row) → Type 0
@@ -81,7 +81,7 @@ OneAtATime plan run =
 abbrev pub BoardOneAtATime : Type 0
 BoardOneAtATime =
     (accepted : List Reservation) (plan : List (List Row)) → PlanFor accepted plan →
-    All (λ rows. DemandFits (timings rows)) plan → PartsOnce plan →
+    AllByRecursion (λ rows. DemandFits (timings rows)) plan → PartsOnce plan →
     (pattern : Pattern) → Legal accepted pattern → (run : ℕ → ℕ → Slot) → BoardRun plan pattern run → OneAtATime plan run
 
 -- Runs of the board exist, for every plan and pattern.

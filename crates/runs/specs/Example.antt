@@ -1,7 +1,7 @@
 -- A plan with a split reservation, to which the promises apply. Assumes nothing.
 use Rattle.std.specs.Prelude.{ℕ, ◌≤◌, List, [], ◌∷◌}
 use Rattle.std.proofs.Common.{lit≤}
-use Rattle.std.specs.List.{AllByRecursion as All}
+use Rattle.std.specs.List.{AllByRecursion}
 use Rattle.model.specs.declared.timing.Timing.{Timing}
 use Rattle.model.specs.declared.row.Kind.{Kind}
 use Rattle.model.specs.declared.row.Row.{Row}
@@ -37,5 +37,5 @@ plan =
 -- every condition of the promises holds
 pub record ExampleStands : Type 0 where
   pub stands : PlanFor accepted plan
-  pub fits : All (λ rows. DemandFits (timings rows)) plan
+  pub fits : AllByRecursion (λ rows. DemandFits (timings rows)) plan
   pub once : PartsOnce plan

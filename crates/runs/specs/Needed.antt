@@ -1,6 +1,6 @@
 -- Each condition of the promises is needed: leave one out, keep the others, and some run is late. Assumes nothing.
 use Rattle.std.specs.Prelude.{◌≡◌, ℕ, ◌+◌, ◌<◌, ◌≤◌, cond, List, [], ◌∷◌, length, Some, ◌==◌, ◌≢◌}
-use Rattle.std.specs.List.{AllByRecursion as All, slice_get}
+use Rattle.std.specs.List.{AllByRecursion, slice_get}
 use Rattle.model.specs.declared.timing.Timing.{Timing}
 use Rattle.model.specs.declared.row.Kind.{Kind}
 use Rattle.model.specs.declared.row.Row.{Row}
@@ -138,10 +138,10 @@ pub record HeadKeepsDeadline : Type 0 where
 pub record TailWithSlack : Type 0 where
   pub accepted : List Reservation
   pub plan : List (List Row)
-  pub owned : All (All (Owned accepted)) plan
-  pub slack : All (All (λ r. r.timing.deadline ≤ span r + 1)) plan
-  pub sums : All (AddsUp plan) accepted
-  pub fits : All (λ rows. DemandFits (timings rows)) plan
+  pub owned : AllByRecursion (AllByRecursion (Owned accepted)) plan
+  pub slack : AllByRecursion (AllByRecursion (λ r. r.timing.deadline ≤ span r + 1)) plan
+  pub sums : AllByRecursion (AddsUp plan) accepted
+  pub fits : AllByRecursion (λ rows. DemandFits (timings rows)) plan
   pub late : LateInstance accepted plan
 
 -- an owner of each row: one key is nobody's, so that no legal pattern keeps its releases apart
@@ -149,10 +149,10 @@ pub record StrayRow : Type 0 where
   pub accepted : List Reservation
   pub plan : List (List Row)
   pub stray : ℕ
-  pub owned : All (All (λ r. (r.key ≢ stray) → Owned accepted r)) plan
-  pub tight : All (All Tight) plan
-  pub sums : All (AddsUp plan) accepted
-  pub fits : All (λ rows. DemandFits (timings rows)) plan
+  pub owned : AllByRecursion (AllByRecursion (λ r. (r.key ≢ stray) → Owned accepted r)) plan
+  pub tight : AllByRecursion (AllByRecursion Tight) plan
+  pub sums : AllByRecursion (AddsUp plan) accepted
+  pub fits : AllByRecursion (λ rows. DemandFits (timings rows)) plan
   pub late : LateInstance accepted plan
 
 -- each part once: with a part that stands twice, two processors serve an instance in the same tick
@@ -160,7 +160,7 @@ pub record PartTwice : Type 0 where
   pub accepted : List Reservation
   pub plan : List (List Row)
   pub stands : PlanFor accepted plan
-  pub fits : All (λ rows. DemandFits (timings rows)) plan
+  pub fits : AllByRecursion (λ rows. DemandFits (timings rows)) plan
   pub pattern : Pattern
   pub legal : Legal accepted pattern
   pub run : ℕ → ℕ → Slot

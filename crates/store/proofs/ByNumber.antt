@@ -1,6 +1,6 @@
 -- Records read by number, one on, and rows picked along a chain. Assumes nothing.
 use Rattle.std.proofs.Common.{◌≡◌, ℕ, suc, ◌+◌, ◌-◌, ◌<◌, ◌≤◌, true, false, ◌≢◌, List, [], ◌∷◌, ◌++◌, map, length, get_or, take, set, Some, None, sym, ap, ◌∙◌, subst, arith, length-take, get_or-set_other, get_or-set_same, below_more}
-use Rattle.std.specs.List.{AllByRecursion as All}
+use Rattle.std.specs.List.{AllByRecursion}
 use Rattle.std.proofs.lemmas.List.{map_more, map_push, get_or_read, take_more_set}
 use Rattle.std.proofs.ByRecursion.{All-get_or}
 use Rattle.model.specs.declared.row.Row.{Row}
@@ -77,7 +77,7 @@ length_numbers c = omega (arith, length-take c.count c.numbers)
 -- the numbers of a chain that was read, through a slice of them
 pub numbered_chain :
     (chains : List Chain) (i : ℕ) (chain : Chain) (numbers : List ℕ) → i < length chains → chain ≡ get_or chains i chain →
-    numbers ≡ numbers_of chain → All (λ c. Numbered 256 (numbers_of c)) chains → (length numbers ≤ 32) × Numbered 256 numbers
+    numbers ≡ numbers_of chain → AllByRecursion (λ c. Numbered 256 (numbers_of c)) chains → (length numbers ≤ 32) × Numbered 256 numbers
 numbered_chain chains i chain numbers h is same all =
     let here : Numbered 256 (numbers_of (get_or chains i chain)) = All-get_or (λ c. Numbered 256 (numbers_of c)) chains i chain h all in
     (rw same (length_numbers chain), rw same (subst (λ c. Numbered 256 (numbers_of c)) (sym is) here))

@@ -1,6 +1,6 @@
 -- A plan that was loaded keeps the rules of a board's plan, so that it can be saved and loaded again. Assumes nothing.
 use Rattle.std.proofs.Common.{◌≡◌, ℕ, zero, suc, ◌+◌, ◌-◌, ◌<◌, ◌≤◌, Bool, true, false, cond, eqb, List, [], ◌∷◌, ◌++◌, map, length, take, replicate, Some, None, Ok, Err, Option, Result, sym, refl, ap, ◌∙◌, subst, ⊎_elim, arith}
-use Rattle.std.specs.List.{AllByRecursion as All}
+use Rattle.std.specs.List.{AllByRecursion}
 use Rattle.std.proofs.lemmas.List.{length-map, length_push}
 use Rattle.std.proofs.ByRecursion.{All-push}
 use Rattle.std.proofs.lemmas.Bool.{cond_both, cases_lt}
@@ -41,7 +41,7 @@ walk_short n next r (suc room) number so_far reached fits =
 
 -- there is one chain for each processor, none longer than 32
 abbrev pub Sized : ℕ → List (List ℕ) → Type 0
-Sized m l = (length l ≡ m) × All (λ c. length c ≤ 32) l
+Sized m l = (length l ≡ m) × AllByRecursion (λ c. length c ≤ 32) l
 
 abbrev pub WalksSized : ℕ → Result (List (List ℕ) × List Bool) BufferFault → Type 0
 WalksSized m (Ok w) = Sized m w.0
@@ -98,7 +98,7 @@ record_good says (suc left) number e n low high =
     (cases_lt number n)
 
 abbrev pub Good : List Entry → Type 0
-Good = All (λ e. bad_entry e ≡ false)
+Good = AllByRecursion (λ e. bad_entry e ≡ false)
 
 numbered_good :
     (says : ℕ → Entry) (r : ℕ) → record_fault says r 1 ≡ None → (numbers : List ℕ) → Numbered r numbers → Good (map says numbers)
@@ -107,24 +107,24 @@ numbered_good says r e (n ∷ numbers) all =
     (record_good says r 1 e n all.0.0 (omega (arith, all.0.1)), numbered_good says r e numbers all.1)
 
 pub all_good :
-    (says : ℕ → Entry) (r : ℕ) → record_fault says r 1 ≡ None → (l : List (List ℕ)) → All (Numbered r) l → All Good (map (map says) l)
+    (says : ℕ → Entry) (r : ℕ) → record_fault says r 1 ≡ None → (l : List (List ℕ)) → AllByRecursion (Numbered r) l → AllByRecursion Good (map (map says) l)
 all_good says r e [] all = tt
 all_good says r e (numbers ∷ l) all = (numbered_good says r e numbers all.0, all_good says r e l all.1)
 
-pub short_of : (says : ℕ → Entry) (l : List (List ℕ)) → All (λ c. length c ≤ 32) l → All (λ es. length es ≤ 32) (map (map says) l)
+pub short_of : (says : ℕ → Entry) (l : List (List ℕ)) → AllByRecursion (λ c. length c ≤ 32) l → AllByRecursion (λ es. length es ≤ 32) (map (map says) l)
 short_of says [] all = tt
 short_of says (c ∷ l) all = (omega (arith, length-map c says, all.0), short_of says l all.1)
 
 -- the same of rows, from what is stored of them
-rows_good : (rows : List Row) → Good (map entry rows) → All (λ row. bad_entry (entry row) ≡ false) rows
+rows_good : (rows : List Row) → Good (map entry rows) → AllByRecursion (λ row. bad_entry (entry row) ≡ false) rows
 rows_good [] all = tt
 rows_good (row ∷ rows) all = (all.0, rows_good rows all.1)
 
-pub plan_good : (plan : List (List Row)) → All Good (map (map entry) plan) → All (All (λ row. bad_entry (entry row) ≡ false)) plan
+pub plan_good : (plan : List (List Row)) → AllByRecursion Good (map (map entry) plan) → AllByRecursion (AllByRecursion (λ row. bad_entry (entry row) ≡ false)) plan
 plan_good [] all = tt
 plan_good (rows ∷ plan) all = (rows_good rows all.0, plan_good plan all.1)
 
-pub plan_short : (plan : List (List Row)) → All (λ es. length es ≤ 32) (map (map entry) plan) → All (λ rows. length rows ≤ 32) plan
+pub plan_short : (plan : List (List Row)) → AllByRecursion (λ es. length es ≤ 32) (map (map entry) plan) → AllByRecursion (λ rows. length rows ≤ 32) plan
 plan_short [] all = tt
 plan_short (rows ∷ plan) all = (omega (arith, length-map rows entry, all.0), plan_short plan all.1)
 
@@ -169,8 +169,8 @@ loaded_storable accepts bytes before after eight loaded =
     sym (length-map after (map entry)) ∙ (ap length stored ∙ (length-map a.0 (map says) ∙ sized.0)) in (
       (
         omega arith,
-        plan_short after (subst (All (λ es. length es ≤ 32)) (sym stored) (short_of says a.0 sized.1)),
-        plan_good after (subst (All Good) (sym stored) (all_good says (record_count bytes) a.2 a.0 numbered)),
+        plan_short after (subst (AllByRecursion (λ es. length es ≤ 32)) (sym stored) (short_of says a.0 sized.1)),
+        plan_good after (subst (AllByRecursion Good) (sym stored) (all_good says (record_count bytes) a.2 a.0 numbered)),
         t.3,
       ),
       long,

@@ -1,6 +1,6 @@
 -- The places that are told are the lowest. Assumes nothing.
 use Rattle.std.proofs.Common.{◌≡◌, ℕ, zero, suc, ◌+◌, ◌-◌, ◌<◌, ◌≤◌, Bool, true, false, cond, ◌&&◌, ◌||◌, eqb, ltb, ◌⊎◌, List, [], ◌∷◌, ◌++◌, length, get_or, Some, None, Option, sym, refl, ap, ◌∙◌, subst, inl, inr, ⊎_elim, arith}
-use Rattle.std.specs.List.{AllByRecursion as All}
+use Rattle.std.specs.List.{AllByRecursion}
 use Rattle.std.proofs.lemmas.Bool.{eqb-true, eqb-false, ltb-true, ltb-false, and_parts, and_cases, or_cases, or_parts, cases_lt, cases_Bool, cases_eq, both_ways}
 use Rattle.model.specs.declared.timing.Timing.{Timing}
 use Rattle.model.specs.declared.row.Row.{Row}
@@ -122,7 +122,7 @@ judge_lowest accepts plan f e =
     )
 
 pub judge_all :
-    (accepts : List Timing → Bool) (p : ℕ) (plan : List (List Row)) → judge_fault accepts p plan ≡ None → All (λ rows. accepts (timings rows) ≡ true) plan
+    (accepts : List Timing → Bool) (p : ℕ) (plan : List (List Row)) → judge_fault accepts p plan ≡ None → AllByRecursion (λ rows. accepts (timings rows) ≡ true) plan
 judge_all accepts p [] e = tt
 judge_all accepts p (rows ∷ plan) e =
     let parts = passed (accepts (timings rows)) (fault BufferRule.Judge p) (judge_fault accepts (p + 1) plan) e in
@@ -144,10 +144,10 @@ module _ (bad : ℕ → Bool) where
 
   -- v is the lowest of w and the bad keys of the rows, where 0 stands for none
   record KeyLeast (w : ℕ) (rows : List Row) (v : ℕ) : Type 0 where
-    none : v ≡ 0 → (w ≡ 0) × All (λ row. bad row.key ≡ false) rows
+    none : v ≡ 0 → (w ≡ 0) × AllByRecursion (λ row. bad row.key ≡ false) rows
     under : 1 ≤ v → 1 ≤ w → v ≤ w
     attained : 1 ≤ v → (v ≡ w) ⊎ ((bad v ≡ true) × KeyOf v rows)
-    floor : 1 ≤ v → All (λ row. bad row.key ≡ true → v ≤ row.key) rows
+    floor : 1 ≤ v → AllByRecursion (λ row. bad row.key ≡ true → v ≤ row.key) rows
 
   Hit : ℕ → ℕ → Type 0
   Hit w k = (lower bad w k ≡ k) × (bad k ≡ true) × ((w ≡ 0) ⊎ (k < w))
@@ -217,7 +217,7 @@ module _ (bad : ℕ → Bool) where
         );
       }
 
-  lowest_least : (rows : List Row) (w : ℕ) → All (λ row. 1 ≤ row.key) rows → KeyLeast w rows (lowest_in bad w rows)
+  lowest_least : (rows : List Row) (w : ℕ) → AllByRecursion (λ row. 1 ≤ row.key) rows → KeyLeast w rows (lowest_in bad w rows)
   lowest_least [] w keyed = record { none = λ z. (z, tt); under = λ h k. omega arith; attained = λ h. inl refl; floor = λ h. tt }
   lowest_least (row ∷ rows) w keyed =
       ⊎_elim
@@ -226,13 +226,13 @@ module _ (bad : ℕ → Bool) where
       (lower_cases w row.key)
 
 pub key_none :
-    (plan : List (List Row)) → All (λ row. 1 ≤ row.key) (all_of plan) → lowest_of (bad_key plan) 0 plan ≡ 0 →
-    All (λ row. bad_key plan row.key ≡ false) (all_of plan)
+    (plan : List (List Row)) → AllByRecursion (λ row. 1 ≤ row.key) (all_of plan) → lowest_of (bad_key plan) 0 plan ≡ 0 →
+    AllByRecursion (λ row. bad_key plan row.key ≡ false) (all_of plan)
 key_none plan keyed z =
     ((lowest_least (bad_key plan) (all_of plan) 0 keyed).none (sym (lowest_flat (bad_key plan) 0 plan) ∙ z)).1
 
 pub key_lowest :
-    (plan : List (List Row)) (key : ℕ) → All (λ row. 1 ≤ row.key) (all_of plan) → lowest_of (bad_key plan) 0 plan ≡ key → 1 ≤ key → LowestKey plan key
+    (plan : List (List Row)) (key : ℕ) → AllByRecursion (λ row. 1 ≤ row.key) (all_of plan) → lowest_of (bad_key plan) 0 plan ≡ key → 1 ≤ key → LowestKey plan key
 key_lowest plan key keyed is some =
     let flat = lowest_flat (bad_key plan) 0 plan in
     let least = subst (KeyLeast (bad_key plan) 0 (all_of plan)) (sym flat ∙ is) (lowest_least (bad_key plan) (all_of plan) 0 keyed) in
@@ -241,13 +241,13 @@ key_lowest plan key keyed is some =
     record { there = found.1; bad = found.0; lowest = least.floor some }
 
 -- what holds of the key of every row holds of a key that some row has
-pub at_key : (P : ℕ → Type 0) (key : ℕ) (rows : List Row) → KeyOf key rows → All (λ row. P row.key) rows → P key
+pub at_key : (P : ℕ → Type 0) (key : ℕ) (rows : List Row) → KeyOf key rows → AllByRecursion (λ row. P row.key) rows → P key
 at_key P key [] there all = absurd there
 at_key P key (row ∷ rows) (inl e) all = subst P e all.0
 at_key P key (row ∷ rows) (inr there) all = at_key P key rows there all.1
 
 pub key_zero :
-    (plan : List (List Row)) → All (λ row. 1 ≤ row.key) (all_of plan) → All (λ row. bad_key plan row.key ≡ false) (all_of plan) →
+    (plan : List (List Row)) → AllByRecursion (λ row. 1 ≤ row.key) (all_of plan) → AllByRecursion (λ row. bad_key plan row.key ≡ false) (all_of plan) →
     lowest_of (bad_key plan) 0 plan ≡ 0
 key_zero plan keyed good =
     let v = lowest_in (bad_key plan) 0 (all_of plan) in
@@ -262,7 +262,7 @@ key_zero plan keyed good =
     (cases_eq v 0)
 
 pub key_is :
-    (plan : List (List Row)) (key : ℕ) → All (λ row. 1 ≤ row.key) (all_of plan) → LowestKey plan key → lowest_of (bad_key plan) 0 plan ≡ key
+    (plan : List (List Row)) (key : ℕ) → AllByRecursion (λ row. 1 ≤ row.key) (all_of plan) → LowestKey plan key → lowest_of (bad_key plan) 0 plan ≡ key
 key_is plan key keyed lowest =
     let v = lowest_in (bad_key plan) 0 (all_of plan) in
     let least = lowest_least (bad_key plan) (all_of plan) 0 keyed in

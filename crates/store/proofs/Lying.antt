@@ -1,7 +1,7 @@
 -- The chains that are followed are chains in the words of the format, and each record lies on just one. Assumes nothing.
 use Rattle.std.proofs.Common.{◌≡◌, ℕ, zero, suc, ◌+◌, ◌-◌, ◌<◌, ◌≤◌, Bool, true, false, cond, eqb, ltb, ◌≢◌, ◌⊎◌, List, [], ◌∷◌, ◌++◌, length, get_or, take, replicate, Some, None, Ok, Err, Option, Result, sym, refl, ap, ◌∙◌, subst, inl, inr, ⊎_elim, append_assoc, arith, length-set, get_or-set_other, get_or-set_same}
 use lib.ListN.{length-replicate}
-use Rattle.std.specs.List.{AllByRecursion as All}
+use Rattle.std.specs.List.{AllByRecursion}
 use Rattle.std.proofs.ByRecursion.{All-weaker}
 use Rattle.std.proofs.lemmas.List.{append-nil, get_or-replicate, get_or-take, length-take-le}
 use Rattle.std.proofs.lemmas.Bool.{cond_both, eqb-true, eqb-false, eq-eqb, ne_eqb, ltb-false, le-ltb, or_parts, or_from, and_parts, cases_eq}
@@ -115,7 +115,7 @@ one_if_none false e = refl
 -- a chain that is sound is walked to its end
 walk_complete :
     (next : ℕ → ℕ) (r : ℕ) (before : List ℕ) {number : ℕ} {l : List ℕ} → ChainFrom next number l →
-    (room : ℕ) (so_far : List ℕ) (reached : List Bool) → r ≤ 256 → length l ≤ room → All (λ n. n ≤ r) l → Counted (before ++ so_far) reached →
+    (room : ℕ) (so_far : List ℕ) (reached : List Bool) → r ≤ 256 → length l ≤ room → AllByRecursion (λ n. n ≤ r) l → Counted (before ++ so_far) reached →
     ((n : ℕ) → 1 ≤ n → n ≤ r → occurs n ((before ++ so_far) ++ l) ≤ 1) → walk next r room number so_far reached ≡ None → ⊥
 walk_complete next r before ChainFrom.ends room so_far reached few fits within counted fresh none =
     let done = walk_done next r room 0 so_far reached refl in

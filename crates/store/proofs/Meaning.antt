@@ -1,6 +1,6 @@
 -- What load answers stands in the relation of loading. Assumes nothing.
 use Rattle.std.proofs.Common.{◌≡◌, ℕ, ◌≤◌, Bool, true, false, cond, not, ◌||◌, eqb, ltb, List, [], ◌∷◌, map, length, is_some, Some, None, Ok, Err, Option, Result, sym, refl, ap, ◌∙◌, subst, ⊎_elim, arith}
-use Rattle.std.specs.List.{AllByRecursion as All}
+use Rattle.std.specs.List.{AllByRecursion}
 use Rattle.std.proofs.ByRecursion.{All-append}
 use Rattle.std.proofs.lemmas.Bool.{eqb-true, eqb-false, eq-eqb, ne_eqb, ltb-true, ltb-false, not-false, or_parts, cases_eq, cases_Bool}
 use Rattle.model.specs.declared.timing.Timing.{Timing}
@@ -45,11 +45,11 @@ keyed_entry row good =
     let rest = (or_parts (ltb 2 e.kind) (eqb e.key 0 || late) good).1 in
     omega (arith, eqb-false row.key 0 (or_parts (eqb e.key 0) late rest).0)
 
-keyed : (rows : List Row) → All (λ row. bad_entry (entry row) ≡ false) rows → All (λ row. 1 ≤ row.key) rows
+keyed : (rows : List Row) → AllByRecursion (λ row. bad_entry (entry row) ≡ false) rows → AllByRecursion (λ row. 1 ≤ row.key) rows
 keyed [] good = tt
 keyed (row ∷ rows) good = (keyed_entry row good.0, keyed rows good.1)
 
-pub all_keyed : (plan : List (List Row)) → All (All (λ row. bad_entry (entry row) ≡ false)) plan → All (λ row. 1 ≤ row.key) (all_of plan)
+pub all_keyed : (plan : List (List Row)) → AllByRecursion (AllByRecursion (λ row. bad_entry (entry row) ≡ false)) plan → AllByRecursion (λ row. 1 ≤ row.key) (all_of plan)
 all_keyed [] good = tt
 all_keyed (rows ∷ plan) good = All-append (λ row. 1 ≤ row.key) rows (all_of plan) (keyed rows good.0) (all_keyed plan good.1)
 
@@ -61,14 +61,14 @@ module _ (accepts : List Timing → Bool) (bytes : List ℕ) (before : List (Lis
 
   by_judge :
       (plan : List (List Row)) (o : Option BufferFault) → judge_fault accepts 1 plan ≡ o → PlanOf bytes (length before) plan →
-      All (λ row. bad_key plan row.key ≡ false) (all_of plan) → keys plan ≤ 64 → Loads accepts bytes before (answered o) (replaced o before plan)
+      AllByRecursion (λ row. bad_key plan row.key ≡ false) (all_of plan) → keys plan ≤ 64 → Loads accepts bytes before (answered o) (replaced o before plan)
   by_judge plan None e of sound few = Loads.loaded plan of (record { reservations = sound; few = few; judged = judge_all accepts 1 plan e })
   by_judge plan (Some f) e of sound few =
       let t = judge_lowest accepts plan f e in
       subst (λ g. Loads accepts bytes before (Err g) before) (sym t.1) (Loads.not_judged plan t.0 of sound few t.2)
 
   by_keys :
-      (plan : List (List Row)) → PlanOf bytes (length before) plan → All (λ row. 1 ≤ row.key) (all_of plan) →
+      (plan : List (List Row)) → PlanOf bytes (length before) plan → AllByRecursion (λ row. 1 ≤ row.key) (all_of plan) →
       Loads accepts bytes before (answered (plan_fault accepts plan)) (replaced (plan_fault accepts plan) before plan)
   by_keys plan of keyed' =
       let v = lowest_of (bad_key plan) 0 plan in
@@ -120,7 +120,7 @@ module _ (accepts : List Timing → Bool) (bytes : List ℕ) (before : List (Lis
           let of : PlanOf bytes (length before) t.0 =
           (l, record { header = header; lies = lies; good = good }, t.1) in
           let numbered = chains_numbered (head_at bytes) (next_at (length before) bytes) (length before) (record_count bytes) l chained in
-          let rows_good = plan_good t.0 (subst (All (All (λ e. bad_entry e ≡ false))) (sym t.1) (all_good says (record_count bytes) recorded l numbered)) in
+          let rows_good = plan_good t.0 (subst (AllByRecursion (AllByRecursion (λ e. bad_entry e ≡ false))) (sym t.1) (all_good says (record_count bytes) recorded l numbered)) in
           settle answer _ after _ t.2 t.3 (by_keys t.0 of (all_keyed t.0 rows_good))
 
   by_chains :

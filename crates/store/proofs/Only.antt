@@ -1,6 +1,6 @@
 -- The relation of loading allows what load computes, and nothing else. Assumes nothing.
 use Rattle.std.proofs.Common.{◌≡◌, ℕ, zero, suc, ◌+◌, ◌-◌, ◌<◌, ◌≤◌, Bool, true, false, List, [], ◌∷◌, map, length, get_or, Some, None, Ok, Err, Option, Result, sym, refl, ap, ◌∙◌, subst, inl, inr, ⊎_elim, arith}
-use Rattle.std.specs.List.{AllByRecursion as All}
+use Rattle.std.specs.List.{AllByRecursion}
 use Rattle.std.proofs.lemmas.Bool.{ne_eqb, eq-eqb, lt-ltb, le-ltb, cases_lt}
 use Rattle.model.specs.declared.timing.Timing.{Timing}
 use Rattle.model.specs.declared.row.Row.{Row}
@@ -65,7 +65,7 @@ judge_is accepts p (suc i) (rows ∷ plan) h no_said lowest =
     (judge_is accepts (p + 1) i plan (omega arith) no_said (λ k a. lowest (suc k) (omega arith)) ∙ ap (λ q. Some (fault BufferRule.Judge q)) same)
 
 pub judge_none :
-    (accepts : List Timing → Bool) (p : ℕ) (plan : List (List Row)) → All (λ rows. accepts (timings rows) ≡ true) plan →
+    (accepts : List Timing → Bool) (p : ℕ) (plan : List (List Row)) → AllByRecursion (λ rows. accepts (timings rows) ≡ true) plan →
     judge_fault accepts p plan ≡ None
 judge_none accepts p [] all = refl
 judge_none accepts p (rows ∷ plan) all = rw all.0 (judge_none accepts (p + 1) plan all.1)
@@ -99,14 +99,14 @@ module _ (accepts : List Timing → Bool) (bytes : List ℕ) (before : List (Lis
         ∙ ap (λ o. unless o (Ok (map (map says) of.0))) recorded
         ∙ ap Ok (sym of.2)
 
-    pub rows_good : All (All (λ row. bad_entry (entry row) ≡ false)) plan
+    pub rows_good : AllByRecursion (AllByRecursion (λ row. bad_entry (entry row) ≡ false)) plan
     rows_good =
         let says = entry_at (length before) bytes in
         let r = record_count bytes in
-        plan_good plan (subst (All (All (λ e. bad_entry e ≡ false))) (sym of.2)
+        plan_good plan (subst (AllByRecursion (AllByRecursion (λ e. bad_entry e ≡ false))) (sym of.2)
         (all_good says r recorded of.0 (chains_numbered (head_at bytes) (next_at (length before) bytes) (length before) r of.0 chained)))
 
-    keyed : All (λ row. 1 ≤ row.key) (all_of plan)
+    keyed : AllByRecursion (λ row. 1 ≤ row.key) (all_of plan)
     keyed = all_keyed plan rows_good
 
   by_plan :

@@ -1,6 +1,6 @@
 -- Every number on a chain is that of a record, and the rows picked along chains are what the records say. Assumes nothing.
 use Rattle.std.proofs.Common.{◌≡◌, ℕ, zero, suc, ◌+◌, ◌-◌, ◌<◌, ◌≤◌, Bool, false, cond, eqb, ltb, List, [], ◌∷◌, ◌++◌, map, get_or, take, replicate, Some, None, Ok, Err, Option, Result, refl, ap, ◌∙◌, subst, ap₂, arith, lit≤}
-use Rattle.std.specs.List.{AllByRecursion as All}
+use Rattle.std.specs.List.{AllByRecursion}
 use Rattle.std.proofs.ByRecursion.{All-push, All-weaker}
 use Rattle.std.proofs.lemmas.Bool.{cond_both, eqb-false, ltb-false, or_parts}
 use Rattle.model.specs.declared.row.Kind.{Kind}
@@ -36,7 +36,7 @@ walk_numbered next r (suc room) number so_far reached all =
     (omega (arith, eqb-false number 0 nz), ltb-false r number (or_parts (ltb r number) (get_or reached (number - 1) false) b).0))))
 
 abbrev WalksNumbered : ℕ → Result (List (List ℕ) × List Bool) BufferFault → Type 0
-WalksNumbered r (Ok w) = All (Numbered r) w.0
+WalksNumbered r (Ok w) = AllByRecursion (Numbered r) w.0
 WalksNumbered r (Err f) = Unit {0}
 
 sound_or_numbered :
@@ -46,7 +46,7 @@ sound_or_numbered r place None more all then = tt
 sound_or_numbered r place (Some w) more all then = then w all
 
 walks_numbered :
-    (head next : ℕ → ℕ) (r left p : ℕ) (so_far : List (List ℕ)) (reached : List Bool) → All (Numbered r) so_far →
+    (head next : ℕ → ℕ) (r left p : ℕ) (so_far : List (List ℕ)) (reached : List Bool) → AllByRecursion (Numbered r) so_far →
     WalksNumbered r (walks head next r left p so_far reached)
 unfolding walks
 walks_numbered head next r zero p so_far reached all = all
@@ -57,7 +57,7 @@ walks_numbered head next r (suc left) p so_far reached all =
     (λ w here. walks_numbered head next r left (p + 1) (so_far ++ (w.0 ∷ [])) w.1 (All-push (Numbered r) so_far w.0 all here))
 
 abbrev ChainsNumbered : ℕ → Result (List (List ℕ)) BufferFault → Type 0
-ChainsNumbered r (Ok l) = All (Numbered r) l
+ChainsNumbered r (Ok l) = AllByRecursion (Numbered r) l
 ChainsNumbered r (Err f) = Unit {0}
 
 covered_numbered : (r : ℕ) (w : Result (List (List ℕ) × List Bool) BufferFault) → WalksNumbered r w → ChainsNumbered r (covered r w)
@@ -65,12 +65,12 @@ covered_numbered r (Ok w) all =
     cond_both (all_true (take r w.1)) (Ok w.0) (Err (fault BufferRule.Chains 0)) (ChainsNumbered r) (λ _. all) (λ _. tt)
 covered_numbered r (Err f) all = tt
 
-pub chains_numbered : (head next : ℕ → ℕ) (m r : ℕ) (l : List (List ℕ)) → chains head next m r ≡ Ok l → All (Numbered r) l
+pub chains_numbered : (head next : ℕ → ℕ) (m r : ℕ) (l : List (List ℕ)) → chains head next m r ≡ Ok l → AllByRecursion (Numbered r) l
 chains_numbered head next m r l e =
     subst (ChainsNumbered r) e
     (covered_numbered r (walks head next r m 0 [] (replicate 256 false)) (walks_numbered head next r m 0 [] (replicate 256 false) tt))
 
-pub numbered_array : (r : ℕ) (array : List Chain) → r ≤ 256 → All (Numbered r) (map numbers_of array) → All (λ c. Numbered 256 (numbers_of c)) array
+pub numbered_array : (r : ℕ) (array : List Chain) → r ≤ 256 → AllByRecursion (Numbered r) (map numbers_of array) → AllByRecursion (λ c. Numbered 256 (numbers_of c)) array
 numbered_array r [] few all = tt
 numbered_array r (c ∷ array) few all = (
   All-weaker (λ n. (1 ≤ n) × (n ≤ r)) (λ n. (1 ≤ n) × (n ≤ 256)) (λ n h. (h.0, omega arith)) (numbers_of c) all.0,
@@ -86,7 +86,7 @@ module _ (says : ℕ → Entry) (rows : List Row) (r : ℕ) (d : Row)
       ap₂ (λ (e : Entry) (l : List Entry). e ∷ l) (read (n - 1) d (omega arith) ∙ ap says same) (picked_says numbers all.1)
 
   pub picked_all :
-      (array : List Chain) → All (Numbered r) (map numbers_of array) →
+      (array : List Chain) → AllByRecursion (Numbered r) (map numbers_of array) →
       map (map entry) (map (λ c. picked rows d (numbers_of c)) array) ≡ map (map says) (map numbers_of array)
   picked_all [] all = refl
   picked_all (c ∷ array) all =

@@ -1,7 +1,7 @@
 -- A saved plan is read back, whole. Assumes nothing.
 use Rattle.std.proofs.Common.{◌≡◌, ℕ, ◌+◌, ◌*◌, ◌≤◌, Bool, false, cond, List, [], ◌∷◌, ◌++◌, map, length, take, drop, None, Ok, Err, Result, sym, refl, ap, ◌∙◌, subst, arith}
 use native.Mathlib.Nat.{mod-add-div}
-use Rattle.std.specs.List.{AllByRecursion as All}
+use Rattle.std.specs.List.{AllByRecursion}
 use Rattle.std.proofs.lemmas.List.{append-nil, drop-drop, drop_at}
 use Rattle.std.proofs.lemmas.Bool.{le-ltb, eq-eqb}
 use Rattle.model.specs.declared.timing.Timing.{Timing}
@@ -38,12 +38,12 @@ header_none m bytes a b c d e =
       eq-eqb (length bytes) (image_length m (record_count bytes)) e,
     )
 
-rows_le : (plan : List (List Row)) → All (λ rows. length rows ≤ 32) plan → row_count plan ≤ 32 * length plan
+rows_le : (plan : List (List Row)) → AllByRecursion (λ rows. length rows ≤ 32) plan → row_count plan ≤ 32 * length plan
 rows_le [] short = omega arith
 rows_le (rows ∷ plan) short = omega (arith, rows_le plan short.1, short.0)
 
-module _ (plan : List (List Row)) (eight : length plan ≤ 8) (short : All (λ rows. length rows ≤ 32) plan)
-    (good : All (All (λ row. bad_entry (entry row) ≡ false)) plan) where
+module _ (plan : List (List Row)) (eight : length plan ≤ 8) (short : AllByRecursion (λ rows. length rows ≤ 32) plan)
+    (good : AllByRecursion (AllByRecursion (λ row. bad_entry (entry row) ≡ false)) plan) where
   count_back : record_count (image plan) ≡ row_count plan
   count_back = mod-add-div (row_count plan) 256
 

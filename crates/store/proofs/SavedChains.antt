@@ -2,7 +2,7 @@
 use Rattle.std.proofs.Common.{◌≡◌, ℕ, zero, suc, ◌+◌, ◌-◌, ◌*◌, ◌<◌, ◌≤◌, Bool, true, false, cond, ltb, List, [], ◌∷◌, ◌++◌, map, length, get_or, take, drop, set, replicate, Some, Ok, sym, refl, ap, ◌∙◌, ap₂, append_assoc, arith}
 use lib.Dec.{eqb-suc-zero}
 use lib.ListN.{length-replicate}
-use Rattle.std.specs.List.{AllByRecursion as All}
+use Rattle.std.specs.List.{AllByRecursion}
 use Rattle.std.proofs.lemmas.List.{append-nil, drop-drop, drop_at, take_at, set_at, get_or-append-add, replicate_more}
 use Rattle.std.proofs.lemmas.Bool.{or_from, le-ltb}
 use Rattle.model.specs.declared.row.Row.{Row}
@@ -86,7 +86,7 @@ module _ (m : ℕ) (bytes : List ℕ) where
 
   pub chain_good :
       (rows : List Row) (k left : ℕ) (rest : List ℕ) → drop (4 + 2 * m + 18 * k) bytes ≡ chain_bytes (k + 1) rows ++ rest →
-      All (λ row. bad_entry (entry row) ≡ false) rows →
+      AllByRecursion (λ row. bad_entry (entry row) ≡ false) rows →
       record_fault (entry_at m bytes) (length rows + left) (k + 1) ≡ record_fault (entry_at m bytes) left (k + length rows + 1)
   chain_good [] k left rest e good =
       let a : 0 + left ≡ left = omega arith in
@@ -141,7 +141,7 @@ module _ (m : ℕ) (bytes : List ℕ) where
     pub plan_walks :
         (plan : List (List Row)) (p k : ℕ) (so_far : List (List ℕ)) (heads rest : List ℕ) →
         drop (4 + 2 * p) bytes ≡ heads_bytes (k + 1) plan ++ heads → drop (4 + 2 * m + 18 * k) bytes ≡ records_bytes (k + 1) plan ++ rest →
-        All (λ rows. length rows ≤ 32) plan → k + row_count plan ≤ r →
+        AllByRecursion (λ rows. length rows ≤ 32) plan → k + row_count plan ≤ r →
         walks (head_at bytes) (next_at m bytes) r (length plan) p so_far (flags k)
         ≡ Ok (so_far ++ numbering (k + 1) plan, flags (k + row_count plan))
     plan_walks [] p k so_far heads rest h e short within =
@@ -179,7 +179,7 @@ module _ (m : ℕ) (bytes : List ℕ) where
 
   pub plan_good :
       (plan : List (List Row)) (k left : ℕ) (rest : List ℕ) → drop (4 + 2 * m + 18 * k) bytes ≡ records_bytes (k + 1) plan ++ rest →
-      All (All (λ row. bad_entry (entry row) ≡ false)) plan →
+      AllByRecursion (AllByRecursion (λ row. bad_entry (entry row) ≡ false)) plan →
       record_fault (entry_at m bytes) (row_count plan + left) (k + 1) ≡ record_fault (entry_at m bytes) left (k + row_count plan + 1)
   plan_good [] k left rest e good =
       let a : 0 + left ≡ left = omega arith in

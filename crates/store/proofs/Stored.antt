@@ -1,6 +1,6 @@
 -- A plan that an image can say is loaded as it was saved, and a plan that was loaded is one. Assumes nothing.
 use Rattle.std.proofs.Common.{◌≡◌, ℕ, ◌+◌, ◌≤◌, Bool, false, cond, not, ◌||◌, eqb, ltb, List, [], ◌∷◌, ◌++◌, map, length, is_some, None, Ok, Result, sym, refl, ap, ◌∙◌, subst, arith}
-use Rattle.std.specs.List.{AllByRecursion as All}
+use Rattle.std.specs.List.{AllByRecursion}
 use Rattle.std.proofs.lemmas.List.{length-map}
 use Rattle.std.proofs.ByRecursion.{All-weaker}
 use Rattle.std.proofs.lemmas.Bool.{ne_eqb, eq-eqb, le-ltb, eqb-true, eqb-false, ltb-false, or_from, or_parts, not-false}
@@ -73,9 +73,9 @@ good_sayable row good =
     (omega (arith, eqb-false row.key 0 b.0), tail_fits row.kind x c.0)
 
 GoodRows : List (List Row) → Type 0
-GoodRows = All (All (λ row. bad_entry (entry row) ≡ false))
+GoodRows = AllByRecursion (AllByRecursion (λ row. bad_entry (entry row) ≡ false))
 
-sounds_short : (head next : ℕ → ℕ) (r p : ℕ) (before : List ℕ) (ls : List (List ℕ)) → Sounds head next r p before ls → All (λ c. length c ≤ 32) ls
+sounds_short : (head next : ℕ → ℕ) (r p : ℕ) (before : List ℕ) (ls : List (List ℕ)) → Sounds head next r p before ls → AllByRecursion (λ c. length c ≤ 32) ls
 sounds_short head next r p before [] s = tt
 sounds_short head next r p before (l ∷ ls) s = (s.0.short, sounds_short head next r (p + 1) (before ++ l) ls s.1)
 
@@ -90,8 +90,8 @@ module _ (accepts : List Timing → Bool) where
   sayable_loaded : (plan before : List (List Row)) → SayablePlan accepts plan → length before ≡ length plan → Loaded accepts (image plan) before (Ok tt) plan
   unfolding GoodRows
   sayable_loaded plan before ok len =
-      let good : All (All (λ row. bad_entry (entry row) ≡ false)) plan =
-      All-weaker (All Sayable) (All (λ row. bad_entry (entry row) ≡ false))
+      let good : AllByRecursion (AllByRecursion (λ row. bad_entry (entry row) ≡ false)) plan =
+      All-weaker (AllByRecursion Sayable) (AllByRecursion (λ row. bad_entry (entry row) ≡ false))
       (λ rows. All-weaker Sayable (λ row. bad_entry (entry row) ≡ false) sayable_good rows) plan ok.rows in
       loaded_as accepts (image plan) before (length plan) len plan None (saved_entries plan ok.eight ok.short good) (lawful_fault plan good ok.lawful)
 
@@ -130,8 +130,8 @@ module _ (accepts : List Timing → Bool) where
       let long : length after ≡ m = sym (length-map after (map entry)) ∙ ap length of.2 ∙ length-map of.0 (map says) ∙ of.1.lies.count in (
         record {
           eight = omega arith;
-          short = plan_short after (subst (All (λ es. length es ≤ 32)) (sym of.2) (short_of says of.0 (sounds_short _ _ _ 0 [] of.0 of.1.lies.sound)));
-          rows = All-weaker (All (λ row. bad_entry (entry row) ≡ false)) (All Sayable)
+          short = plan_short after (subst (AllByRecursion (λ es. length es ≤ 32)) (sym of.2) (short_of says of.0 (sounds_short _ _ _ 0 [] of.0 of.1.lies.sound)));
+          rows = All-weaker (AllByRecursion (λ row. bad_entry (entry row) ≡ false)) (AllByRecursion Sayable)
               (λ rows. All-weaker (λ row. bad_entry (entry row) ≡ false) Sayable good_sayable rows) after (rows_good accepts bytes before after of);
           lawful = said.1;
         },

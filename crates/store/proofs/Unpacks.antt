@@ -1,6 +1,6 @@
 -- The entries of an image from its header, chains and records. Assumes nothing.
 use Rattle.std.proofs.Common.{◌≡◌, ℕ, ◌+◌, ◌-◌, ◌<◌, ◌≤◌, List, map, length, get_or, take, None, Ok, Err, sym, ap, ◌∙◌, arith}
-use Rattle.std.specs.List.{AllByRecursion as All}
+use Rattle.std.specs.List.{AllByRecursion}
 use Rattle.std.proofs.lemmas.List.{length-take-le}
 use Rattle.model.specs.declared.row.Row.{Row}
 use Rattle.store.specs.declared.chain.Chain.{Chain}
@@ -52,7 +52,7 @@ module _ (m : ℕ) (bytes : List ℕ) (none : header_fault m bytes ≡ None) whe
 pub pick_asks :
     (head next : ℕ → ℕ) (m m' r : ℕ) (array : List Chain) → m' ≡ m → m ≤ 8 → length array ≡ 8 → r ≤ 256 →
     chains head next m' r ≡ Ok (map numbers_of (take m' array)) →
-    (length (take (m - 0) array) ≤ 8) × All (λ c. Numbered 256 (numbers_of c)) (take (m - 0) array)
+    (length (take (m - 0) array) ≤ 8) × AllByRecursion (λ c. Numbered 256 (numbers_of c)) (take (m - 0) array)
 pick_asks head next m m' r array is_m eight long few chained =
     let z : m - 0 ≡ m = omega arith in
     let numbered = rw is_m at (chains_numbered head next m' r (map numbers_of (take m' array)) chained) in

@@ -1,6 +1,6 @@
 -- Loading in the words of the format: chains that go from heads along next to zero, and the rows along them. Assumes nothing.
 use Rattle.std.specs.Prelude.{◌≡◌, ℕ, ◌+◌, ◌-◌, ◌<◌, ◌≤◌, Bool, true, false, cond, ◌⊎◌, List, [], ◌∷◌, ◌++◌, map, length, Some, None, Ok, Err, Result, ◌==◌, slice_index_or}
-use Rattle.std.specs.List.{AllByRecursion as All}
+use Rattle.std.specs.List.{AllByRecursion}
 use Rattle.model.specs.declared.timing.Timing.{Timing}
 use Rattle.model.specs.declared.row.Row.{Row}
 use Rattle.model.specs.Row.{timings}
@@ -33,7 +33,7 @@ all_of (l ∷ ls) = l ++ all_of ls
 pub record Sound (next : ℕ → ℕ) (r : ℕ) (before : List ℕ) (head : ℕ) (chain : List ℕ) : Type 0 where
   pub along : ChainFrom next head chain
   pub short : length chain ≤ 32
-  pub within : All (λ n. n ≤ r) chain
+  pub within : AllByRecursion (λ n. n ≤ r) chain
   pub fresh : (n : ℕ) → 1 ≤ n → n ≤ r → occurs n (before ++ chain) ≤ 1
 
 -- the chains of processors from p on, each sound after those before it
@@ -76,9 +76,9 @@ PlanOf bytes m plan =
 
 -- the rows of every key make one reservation, there are at most 64 keys, and the judge says yes to every processor
 pub record Lawful (accepts : List Timing → Bool) (plan : List (List Row)) : Type 0 where
-  pub reservations : All (λ row. bad_key plan row.key ≡ false) (all_of plan)
+  pub reservations : AllByRecursion (λ row. bad_key plan row.key ≡ false) (all_of plan)
   pub few : keys plan ≤ 64
-  pub judged : All (λ rows. accepts (timings rows) ≡ true) plan
+  pub judged : AllByRecursion (λ rows. accepts (timings rows) ≡ true) plan
 
 -- a key that some row has
 abbrev pub KeyOf : ℕ → List Row → Type 0
@@ -89,7 +89,7 @@ KeyOf key (row ∷ rows) = (row.key ≡ key) ⊎ KeyOf key rows
 pub record LowestKey (plan : List (List Row)) (key : ℕ) : Type 0 where
   pub there : KeyOf key (all_of plan)
   pub bad : bad_key plan key ≡ true
-  pub lowest : All (λ row. bad_key plan row.key ≡ true → key ≤ row.key) (all_of plan)
+  pub lowest : AllByRecursion (λ row. bad_key plan row.key ≡ true → key ≤ row.key) (all_of plan)
 
 -- the lowest number of a record that is no row's
 pub record LowestRecord (says : ℕ → Entry) (r n : ℕ) : Type 0 where
@@ -127,8 +127,8 @@ pub data Loads (accepts : List Timing → Bool) (bytes : List ℕ) (before : Lis
       (plan : List (List Row)) (key : ℕ) → PlanOf bytes (length before) plan → LowestKey plan key →
       Loads accepts bytes before (Err (fault BufferRule.Key key)) before
   many_keys :
-      (plan : List (List Row)) → PlanOf bytes (length before) plan → All (λ row. bad_key plan row.key ≡ false) (all_of plan) → 64 < keys plan →
+      (plan : List (List Row)) → PlanOf bytes (length before) plan → AllByRecursion (λ row. bad_key plan row.key ≡ false) (all_of plan) → 64 < keys plan →
       Loads accepts bytes before (Err (fault BufferRule.Keys 0)) before
   not_judged :
-      (plan : List (List Row)) (p : ℕ) → PlanOf bytes (length before) plan → All (λ row. bad_key plan row.key ≡ false) (all_of plan) → keys plan ≤ 64 →
+      (plan : List (List Row)) (p : ℕ) → PlanOf bytes (length before) plan → AllByRecursion (λ row. bad_key plan row.key ≡ false) (all_of plan) → keys plan ≤ 64 →
       LowestJudged accepts plan p → Loads accepts bytes before (Err (fault BufferRule.Judge p)) before

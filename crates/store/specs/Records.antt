@@ -1,6 +1,6 @@
 -- The records of an image, by number. Assumes nothing.
 use Rattle.std.specs.Prelude.{◌≡◌, ℕ, zero, suc, ◌+◌, ◌-◌, ◌<◌, ◌≤◌, true, false, cond, List, map, length, get_or, Some, None, Ok, Err, Option, Result, slice_index_or}
-use Rattle.std.specs.List.{AllByRecursion as All}
+use Rattle.std.specs.List.{AllByRecursion}
 use Rattle.model.specs.declared.row.Row.{Row}
 use Rattle.store.specs.declared.entry.Entry.{Entry}
 use Rattle.store.specs.declared.fault.BufferFault.{BufferFault}
@@ -27,7 +27,7 @@ ReadAll says r (Err f) = record_fault says r 1 ≡ Some f
 
 -- each is the number of one of r records
 abbrev pub Numbered : ℕ → List ℕ → Type 0
-Numbered r = All (λ n. (1 ≤ n) × (n ≤ r))
+Numbered r = AllByRecursion (λ n. (1 ≤ n) × (n ≤ r))
 
 -- the rows of these records, out of the rows by number
 abbrev pub picked : List Row → Row → List ℕ → List Row

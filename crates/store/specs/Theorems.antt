@@ -1,6 +1,6 @@
 -- What holds of stored plans. Assumes nothing.
 use Rattle.std.specs.Prelude.{◌≡◌, ℕ, ◌≤◌, Bool, false, List, [], ◌∷◌, length, None, Ok, Result}
-use Rattle.std.specs.List.{AllByRecursion as All}
+use Rattle.std.specs.List.{AllByRecursion}
 use Rattle.model.specs.declared.timing.Timing.{Timing}
 use Rattle.model.specs.declared.row.Kind.{Kind}
 use Rattle.model.specs.declared.row.Row.{Row}
@@ -22,7 +22,7 @@ OneRowStored =
 -- a board's plan: at most 8 processors with at most 32 rows each, the rows within their limits, and no rule of plans fails
 abbrev pub Storable : (List Timing → Bool) → List (List Row) → Type 0
 Storable accepts plan =
-    (length plan ≤ 8) × All (λ rows. length rows ≤ 32) plan × All (All (λ row. bad_entry (entry row) ≡ false)) plan
+    (length plan ≤ 8) × AllByRecursion (λ rows. length rows ≤ 32) plan × AllByRecursion (AllByRecursion (λ row. bad_entry (entry row) ≡ false)) plan
     × (plan_fault accepts plan ≡ None)
 
 -- a saved plan loads as the plan that was saved, on any board of equal processor count and judge
@@ -59,8 +59,8 @@ Sayable row = (1 ≤ row.key) × TailFits row.kind row.timing
 -- a plan that an image can say: at most 8 processors with at most 32 rows each, rows that records can say, and no rule of plans fails
 pub record SayablePlan (accepts : List Timing → Bool) (plan : List (List Row)) : Type 0 where
   pub eight : length plan ≤ 8
-  pub short : All (λ rows. length rows ≤ 32) plan
-  pub rows : All (All Sayable) plan
+  pub short : AllByRecursion (λ rows. length rows ≤ 32) plan
+  pub rows : AllByRecursion (AllByRecursion Sayable) plan
   pub lawful : Lawful accepts plan
 
 -- a saved plan loads as the plan that was saved, on any board of equal processor count and judge

@@ -1,7 +1,7 @@
 // The rows that the records of an image say, by number and then along the chains.
 ghost use Rattle.std.specs.Prelude.{◌≡◌, ◌≤◌, map, length, take};
 ghost use Rattle.model.specs.declared.row.Row.{Row};
-ghost use Rattle.std.specs.List.{AllByRecursion as All};
+ghost use Rattle.std.specs.List.{AllByRecursion};
 ghost use Rattle.store.specs.Header.{image_length};
 ghost use Rattle.store.specs.InPlace.{numbers_of, rows_in};
 ghost use Rattle.store.specs.Record.{entry_at};
@@ -55,7 +55,7 @@ pub(crate) fn filler() -> BoardRow {
 
 // The rows along each chain.
 pub(crate) fn pick_all(chains: &[Chain], rows: &[BoardRow]) -> [Rows; 8]
-    requires { (length chains.now ≤ 8) × ((length rows.now ≡ 256) × (All (λ c. Numbered 256 (numbers_of c)) chains.now)) }
+    requires { (length chains.now ≤ 8) × ((length rows.now ≡ 256) × (AllByRecursion (λ c. Numbered 256 (numbers_of c)) chains.now)) }
     ensures { (((d : Row) → map rows_in (take (length chains.now) result) ≡ map (λ c. picked rows.now d (numbers_of c)) chains.now)) × (length result ≡ 8) }
 {
     let mut picked = [Rows::none(filler()); 8];
