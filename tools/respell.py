@@ -5,7 +5,8 @@ usage: python3 tools/respell.py            at the top of the repository, once, a
 
 A name is one that a file of crates/*/specs/ or of crates/*/proofs/ itself declares, or brings in with `as`, and that has a dash. It is respelled wherever it stands as a whole
 word: in specs/ and proofs/, and in the clauses, ghost items and ghost imports of src/. Code, comments, strings, must-fail edits, inputs and outputs stay
-as they are, and so do names that Rattle generates. A new name that another definition has already is printed, and nothing is written.
+as they are, and so do names that Rattle generates. The library's `AllByRecursion`, which port.py brings in under the name of another word of the library,
+gets its own name. A new name that another definition has already is printed, and nothing is written.
 """
 
 import collections
@@ -16,6 +17,7 @@ import sys
 
 HEAD = re.compile(r"^\s*(?:(?:abbrev|pub|unfoldable|record|data|private)\s+)*([^\s:(){}.,;=]+)(?:\s+(?:\([^()]*(?:\([^()]*\)[^()]*)*\)|\{[^{}]*\}))*\s*:(?:\s|$)")
 WORD = re.compile(r"[^\s(){}\[\].,;:=\"`|]+")
+ALIAS = "AllByRecursion as All"
 GHOST = re.compile(r"(?m)^[ \t]*(?:ghost use\b|ghost\b|law\b|requires\*?\b|ensures\*?\b)")
 
 
@@ -94,6 +96,8 @@ def turn_words(text, names):
 
 
 def turn_antt(text, names):
+    if ALIAS in text:
+        text, names = text.replace(ALIAS, "AllByRecursion"), names | {"All": "AllByRecursion"}
     lines = []
     for line in text.split("\n"):
         code, comment = code_of(line)
@@ -118,6 +122,8 @@ def region_end(text, at):
 
 
 def turn_rust(text, names):
+    if ALIAS in text:
+        text, names = text.replace(ALIAS, "AllByRecursion"), names | {"All": "AllByRecursion"}
     out, at = [], 0
     for m in GHOST.finditer(text):
         if m.start() < at:

@@ -1,14 +1,14 @@
 """Drives the proved programs and the twin with the same random sessions and compares every reply, byte for byte.
 
-    python3 twin/tools/compare.py sessions SEED COUNT     COUNT console sessions: target/bin/replay against the twin's replay
+    python3 twin/tools/compare.py sessions SEED COUNT     COUNT console sessions: crates/replay/out/replay against the twin's replay
     python3 twin/tools/compare.py images SEED COUNT       workbench sessions until COUNT stored plans were loaded:
-                                                          target/bin/workbench against the twin's replay-workbench
+                                                          crates/workbench/out/workbench against the twin's replay-workbench
     python3 twin/tools/compare.py selftest                errors planted in a copy of the twin must be found and cut short
 
 It goes chunk by chunk, each with a seed of its own from SEED on, and prints a line a chunk; so a run that was stopped goes on with the
 seed after the last one printed. A disagreement is cut down to the shortest session found and printed with both replies.
 Status 1 if there was one. `--ours "COMMAND ARGS"` puts another program in the place of ours, `--chunk N` sets the sessions of a chunk.
-First: rt check replay workbench, and cargo build --offline --release -j1 in twin/."""
+First: rt run < /dev/null in crates/replay and in crates/workbench, and cargo build --offline --release -j1 in twin/."""
 import argparse
 import os
 import shlex
@@ -18,7 +18,7 @@ import time
 
 HERE = os.path.dirname(os.path.abspath(__file__))
 TWIN = os.path.normpath(os.path.join(HERE, '../target/release'))
-OURS = os.path.normpath(os.path.join(HERE, '../../target/bin'))
+OURS = os.path.normpath(os.path.join(HERE, '../../crates'))
 MARKER = b'----\n'
 MOST_SHOWN = 3  # disagreements that are cut short and printed
 
@@ -60,7 +60,7 @@ class Pair:
         self.writer = os.path.join(TWIN, mode)
         self.twin = Side([os.path.join(TWIN, replay)], True)
         if ours is None:
-            self.ours = Side([os.path.join(OURS, program)], mode == 'sessions')
+            self.ours = Side([os.path.join(OURS, program, 'out', program)], mode == 'sessions')
         else:
             self.ours = Side(shlex.split(ours), mode == 'sessions' or 'replay' in ours)
 

@@ -6,7 +6,7 @@ use Rattle.lines.specs.Numbers.{number_of, then_do}
 -- the number that was read, and 0 where there is none
 abbrev pub said : Result ℕ LineFault → ℕ
 said (Ok n) = n
-said (Err fault) = 0
+said (Err e) = 0
 
 -- the number that the field at a place says
 abbrev pub number_at : List (List ℕ) → ℕ → ℕ
