@@ -17,7 +17,7 @@ pub(crate) fn two_at(image: &[u8], at: usize) -> u16
 }
 
 // The number that four bytes hold.
-pub fn four_at(image: &[u8], at: usize) -> u32
+pub(crate) fn four_at(image: &[u8], at: usize) -> u32
     requires { at + 4 ≤ length image.now }
     ensures { result ≡ four_at image.now at }
 {
