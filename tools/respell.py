@@ -6,7 +6,7 @@ usage: python3 tools/respell.py            at the top of the repository, once, a
 A name is one that a file of crates/*/specs/ or of crates/*/proofs/ itself declares, or brings in with `as`, and that has a dash. It is respelled wherever it stands as a whole
 word: in specs/ and proofs/, and in the clauses, ghost items and ghost imports of src/. Code, comments, strings, must-fail edits, inputs and outputs stay
 as they are, and so do names that Rattle generates. The library's `AllByRecursion`, which port.py brings in under the name of another word of the library,
-gets its own name. A new name that another definition has already is printed, and nothing is written.
+gets its own name, and a member of a bound, which port.py leaves bare in some clauses, is written behind its parameter. A new name that another definition has already is printed, and nothing is written.
 """
 
 import collections
@@ -18,6 +18,12 @@ import sys
 HEAD = re.compile(r"^\s*(?:(?:abbrev|pub|unfoldable|record|data|private)\s+)*([^\s:(){}.,;=]+)(?:\s+(?:\([^()]*(?:\([^()]*\)[^()]*)*\)|\{[^{}]*\}))*\s*:(?:\s|$)")
 WORD = re.compile(r"[^\s(){}\[\].,;:=\"`|]+")
 ALIAS = "AllByRecursion as All"
+# members of the bounds P: Placement and J: Judge or SizingJudge; what port.py makes of Rank·Rank differs with what it was run on
+MEMBERS = [
+    (re.compile(r"(?<![\w.])Rank(?:·|-as-)Rank ?\.first\b"), "P.Rank.Rank.first"),
+    (re.compile(r"\((ranks) "), r"(P.\1 "),
+    (re.compile(r"\((allows|accepts) "), r"(J.\1 "),
+]
 GHOST = re.compile(r"(?m)^[ \t]*(?:ghost use\b|ghost\b|law\b|requires\*?\b|ensures\*?\b)")
 
 
@@ -129,7 +135,11 @@ def turn_rust(text, names):
         if m.start() < at:
             continue
         end = region_end(text, m.start())
-        out += [text[at: m.start()], turn_words(text[m.start(): end], names)]
+        clause = turn_words(text[m.start(): end], names)
+        if "pub trait" not in text:
+            for pattern, new in MEMBERS:
+                clause = pattern.sub(new, clause)
+        out += [text[at: m.start()], clause]
         at = end
     return "".join(out) + text[at:]
 
