@@ -5,14 +5,15 @@
 set -e
 here=$(cd "$(dirname "$0")/.." && pwd)
 root=$(dirname "$here")
-kit=$(dirname "$(dirname "$(rt doc)")")
+kit=$(dirname "$(rt doc)")
 if [ -z "$EXPORTS" ]; then
-    (cd "$root" && rt staticlib exports >"$root/target/exports.log" 2>&1) || { tail "$root/target/exports.log"; exit 1; }
-    EXPORTS=$root/target/staticlib/libexports.a
+    mkdir -p "$here/target"
+    (cd "$root/crates/exports" && rt lib) >"$here/target/exports.log" 2>&1 || { tail "$here/target/exports.log"; exit 1; }
+    EXPORTS=$root/crates/exports/out/libexports.a
 fi
 mkdir -p "$here/target/linked"
 cp "$EXPORTS" "$here/target/linked/libexports.a"
-cp "$kit/lib/librattle_c.a" "$here/target/linked/"
+cp "$kit/c/liblibc_c.a" "$here/target/linked/"
 cd "$here"
-cargo rustc --quiet --offline --profile fast -j1 --features proved --bin benchmark -- -L "native=$here/target/linked" -l static=exports -l static=rattle_c
+cargo rustc --quiet --offline --profile fast -j1 --features proved --bin benchmark -- -L "native=$here/target/linked" -l static=exports -l static=libc_c
 exec target/fast/benchmark "$@"
