@@ -1,4 +1,4 @@
--- A larger start value gives no smaller allowance, so each turn only adds. Assumes nothing.
+-- A larger start value gives no smaller allowance, so each refinement only adds. Assumes nothing.
 use Rattle.std.specs.Prelude.{ℕ, zero, suc, ◌+◌, ◌-◌, ◌*◌, ◌/◌, ◌<◌, ◌≤◌, List, [], ◌∷◌, nat_le}
 use Rattle.std.proofs.Common.{zero-le, le_refl, le_trans, mul-le-mul_left, mul-pos, div-mul-le_self, le-div_iff_mul-le, mul_assoc, arith}
 use Rattle.std.proofs.Math.Nat.{div-le_of_le-mul, mul-div-mul_right}
@@ -6,7 +6,7 @@ use Rattle.std.proofs.lemmas.Bool.{cond_both, leb-true, leb-false}
 use Rattle.model.specs.declared.timing.Timing.{Timing}
 use Rattle.judges.specs.Approximate.{point}
 use Rattle.judges.specs.ApproximateLemmas.{div_mono}
-use Rattle.judges.specs.Allowance.{slack, point_room, within_points, within_rows, fixed_room, refined, turns}
+use Rattle.judges.specs.Allowance.{slack, point_room, within_points, within_rows, fixed_room, refined, refinements}
 
 quotient_grows : (a b m k : ℕ) → a ≤ b → k ≤ m → 0 < k → a / m ≤ b / k
 quotient_grows a b m k ab km pos =
@@ -77,8 +77,9 @@ rows_grow s n l t a b (x ∷ rows) c sp tp h =
 pub refined_grows : (s n : ℕ) (l : List Timing) (t c a b : ℕ) → 0 < s → 0 < t → a ≤ b → refined s n l t c a ≤ refined s n l t c b
 refined_grows s n l t c a b sp tp h = rows_grow s n l t a b l (fixed_room s n l t c) sp tp h
 
--- each turn starts from a value that is at most its result
-pub turns_grow : (s n : ℕ) (l : List Timing) (t c k : ℕ) → 0 < s → 0 < t → turns s n l t c k ≤ turns s n l t c (suc k)
-turns_grow s n l t c zero sp tp = zero-le
-turns_grow s n l t c (suc k) sp tp =
-    refined_grows s n l t c (turns s n l t c k) (turns s n l t c (suc k)) sp tp (turns_grow s n l t c k sp tp)
+-- each refinement starts from a value that is at most its result
+pub refinements_grow : (s n : ℕ) (l : List Timing) (t c r : ℕ)
+    → 0 < s → 0 < t → refinements s n l t c r ≤ refinements s n l t c (suc r)
+refinements_grow s n l t c zero sp tp = refined_grows s n l t c 0 (refined s n l t c 0) sp tp zero-le
+refinements_grow s n l t c (suc r) sp tp =
+    refined_grows s n l t c (refinements s n l t c r) (refinements s n l t c (suc r)) sp tp (refinements_grow s n l t c r sp tp)

@@ -33,7 +33,7 @@ pub fn same(a: &[u8], b: &[u8]) -> bool
     equal(a, b)
 }
 
-// That `==` on bytes is the test `sameBytes`.
+// That `==` on bytes is the test `bytes_eq`.
 fn equal(a: &[u8], b: &[u8]) -> bool
     ensures { result ≡ bytes_eq a.now b.now }
 {

@@ -1,10 +1,9 @@
 // A list of at most N elements that needs no memory of its own.
-ghost use Rattle.std.specs.Prelude.{◌≡◌, ◌≤◌, length};
+ghost use Rattle.std.specs.Prelude.{◌≤◌};
 
 #[derive(Drop)]
 pub struct Few<T, const N: usize> {
     pub items: [T; N],
     pub len: usize,
     ghost within: { len ≤ N },
-    ghost all: { length items ≡ N },
 }

@@ -14,10 +14,11 @@ use std::io;
 use std::io::Read;
 use wadispoon::sizes::Sizes;
 
-// One session over an input.
+// One session over an input. What follows a refused first line is not read.
 pub fn serve<I: Read + Drop>(rt: &HostRuntime, input: I) -> io::Result<()> {
     let mut reader = Reader::new(input, false);
-    finish(rt, &mut reader)
+    run(rt, &mut reader)?;
+    Ok(())
 }
 
 // Many sessions, parted by lines `----`, each on a board of its own; `----` follows each one's replies.
@@ -33,7 +34,7 @@ pub fn replay<I: Read + Drop>(rt: &HostRuntime, input: I) -> io::Result<()> {
     Ok(())
 }
 
-// A session to the end of its input: what follows a refused first line is read and let go.
+// One of many sessions: what follows a refused first line is read and let go, up to the mark.
 fn finish<I: Read>(rt: &HostRuntime, reader: &mut Reader<I>) -> io::Result<()> {
     match run(rt, reader)? {
         Ended::Over => Ok(()),

@@ -17,7 +17,7 @@ use model::judge::Judge;
 // Replaces the plan by that of the image, or refuses and changes nothing. It needs no memory.
 pub fn load<J: Judge, P>(board: &mut Board<J, P>, image: &[u8]) -> Result<(), Fault>
     ensures loaded { Loaded (J.Judge.accepts board.old.judge) image.now (plan board.old) result (plan board.new) }
-    ensures rules { Loads (J.Judge.accepts board.old.judge) image.now (plan board.old) result (plan board.new) }
+    ensures meant { Loads (J.Judge.accepts board.old.judge) image.now (plan board.old) result (plan board.new) }
     ensures only { (answer : Result (Unit {0}) BufferFault) (after : List (List Row)) → Loads (J.Judge.accepts board.old.judge) image.now (plan board.old) answer after → (answer ≡ result) × (after ≡ plan board.new) }
     ensures judge { board.new.judge ≡ board.old.judge }
     ensures rule { board.new.rule ≡ board.old.rule }

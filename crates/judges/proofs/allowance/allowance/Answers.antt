@@ -2,7 +2,7 @@ use Rattle.std.proofs.Common.{◌≡◌, suc, sym, ap, ◌∙◌, arith}
 use Rattle.model.specs.Scale.{scale}
 use Rattle.judges.specs.Allowance.{turns}
 use Rattle.judges.specs.AllowanceBounds.{fixed_le_period}
-use Rattle.judges.specs.AllowanceLaws.{turns_le_cap, turns_le_period, allowance_open}
+use Rattle.judges.specs.AllowanceLaws.{turns_refine, turns_le_cap, turns_le_period, allowance_open}
 use Rattle.judges.proofs.AllowanceWalk.{turned}
 use Rattle.judges.proofs.allowance.allowance.Goals as goal
 
@@ -35,4 +35,5 @@ returns c =
     let all : c.loop.counter ≡ suc c.args.refinements = omega arith in
     c.loop.invariant
     ∙ ap (turns scale n l t c.args.cap) all
+    ∙ turns_refine scale n l t c.args.cap c.args.refinements
     ∙ sym (allowance_open scale n c.args.refinements l t c.args.cap (omega arith) (omega arith) (omega arith) (omega arith))

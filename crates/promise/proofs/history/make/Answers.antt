@@ -39,7 +39,7 @@ returns-in-Load g c =
     let b = c.args.board.now in
     record {
       derived = subst (λ call. Derived (meant g.P.Rank.Rank.first (g.P.Placement.ranks b.rule) (g.J.Judge.accepts b.judge) (g.J.SizingJudge.allows b.judge)) (plan b) call (Answer.Loaded c.load.result) (plan c.load.new.board))
-          (sym c.in-Load.is) (c.load.ensures.rules, c.load.ensures.loaded);
+          (sym c.in-Load.is) (c.load.ensures.meant, c.load.ensures.loaded);
       judge = c.load.ensures.judge;
       rule = c.load.ensures.rule;
     }

@@ -17,7 +17,7 @@ returns-in_err-unpacked g c =
     rw (p.1, p.2)
     record {
       loaded = done;
-      rules = means (g.J.Judge.accepts b.judge) c.args.image.now (plan b) _ _ done;
+      meant = means (g.J.Judge.accepts b.judge) c.args.image.now (plan b) _ _ done;
       only = loads_only (g.J.Judge.accepts b.judge) c.args.image.now (plan b) _ _ done;
       judge = refl;
       rule = refl;
@@ -34,7 +34,7 @@ returns-in_err-check_keys g c =
     rw (p.1, p.2)
     record {
       loaded = done;
-      rules = means (g.J.Judge.accepts b.judge) c.args.image.now (plan b) _ _ done;
+      meant = means (g.J.Judge.accepts b.judge) c.args.image.now (plan b) _ _ done;
       only = loads_only (g.J.Judge.accepts b.judge) c.args.image.now (plan b) _ _ done;
       judge = refl;
       rule = refl;
@@ -52,7 +52,7 @@ returns-in_err-check_judge g c =
     rw (p.1, p.2)
     record {
       loaded = done;
-      rules = means (g.J.Judge.accepts b.judge) c.args.image.now (plan b) _ _ done;
+      meant = means (g.J.Judge.accepts b.judge) c.args.image.now (plan b) _ _ done;
       only = loads_only (g.J.Judge.accepts b.judge) c.args.image.now (plan b) _ _ done;
       judge = refl;
       rule = refl;
@@ -68,7 +68,7 @@ returns g c =
     _ c.check_judge.result _ c.check_judge.ensures c.in_ok-check_judge.was c.refill_all.ensures.after in
     record {
       loaded = done;
-      rules = means (g.J.Judge.accepts b.judge) c.args.image.now (plan b) _ _ done;
+      meant = means (g.J.Judge.accepts b.judge) c.args.image.now (plan b) _ _ done;
       only = loads_only (g.J.Judge.accepts b.judge) c.args.image.now (plan b) _ _ done;
       judge = refl;
       rule = refl;
