@@ -238,6 +238,10 @@ pub const MARKER: &[u8] = b"----";
 
 /// Runs each session of a stream with a fresh console and writes its replies
 /// and a marker line.
+pub fn replay(input: &mut impl BufRead, output: &mut impl Write) -> io::Result<()> {
+    replay_program::<Console>(input, output, None)
+}
+
 pub fn replay_program<P: Program>(input: &mut impl BufRead, output: &mut impl Write, plant: Option<Plant>) -> io::Result<()> {
     let mut console = P::planted(plant);
     let mut in_session = false;
@@ -374,7 +378,7 @@ mod tests {
         let want = "refused 50\n----\nboard 1\n1 whole 1 1 1\n----\n----\nboard 2\n----\n";
         for end in ["", "\n", "\n----", "\n----\n"] {
             let mut out = Vec::new();
-            replay_program::<Console>(&mut format!("{stream}{end}").as_bytes(), &mut out, None).unwrap();
+            replay(&mut format!("{stream}{end}").as_bytes(), &mut out).unwrap();
             assert_eq!(String::from_utf8(out).unwrap(), want);
         }
     }
