@@ -1,0 +1,9 @@
+// Replays many sessions of lines that are mostly refused, parted by lines `----`, from standard input.
+#![tactic(auto)]
+
+use session::driver::replay;
+use std::io;
+
+fn main(rt: HostRuntime) -> io::Result<()> {
+    replay(&rt, rt.stdin())
+}
