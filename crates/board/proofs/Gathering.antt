@@ -3,12 +3,12 @@ use Rattle.std.proofs.Common.{◌≡◌, ℕ, zero, suc, ◌+◌, ◌<◌, ◌�
 use Rattle.std.proofs.lemmas.List.{append-nil, append_assoc, at_drop_more, map-set, take_all, drop_all}
 use Rattle.model.specs.declared.timing.Timing.{Timing}
 use Rattle.model.specs.declared.row.Row.{Row}
-use Rattle.model.specs.Row.{timings}
+use Rattle.model.specs.Row.{timings, due}
 use Rattle.model.specs.declared.row.Kind.{Kind}
 use Rattle.processor.specs.declared.rows.Processor.{Processor}
 use Rattle.processor.specs.Rows.{rows_of}
 use Rattle.board.specs.Timed.{timed}
-use Rattle.processor.specs.Gathering.{others, candidate, due}
+use Rattle.processor.specs.Gathering.{others, candidate}
 use Rattle.board.specs.Withdraw.{without, sum_over, whole, regrouped, gather, gather_row, gather_whole, gather_from}
 
 -- a map in place has gone over the whole list

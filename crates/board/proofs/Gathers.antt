@@ -1,13 +1,13 @@
 -- A withdrawal as it is defined is what its rules allow, and nothing else is. Assumes nothing.
 use Rattle.std.proofs.Common.{◌≡◌, ℕ, suc, ◌≤◌, Bool, true, false, cond, List, [], ◌∷◌, ◌++◌, map, get_or, Some, None, Ok, Err, Option, Result, sym, refl, ap, ◌∙◌, subst, arith}
 use native.Mathlib.Decide.{dec_le}
-use Rattle.model.specs.Row.{timings}
+use Rattle.model.specs.Row.{timings, due}
 use Rattle.model.specs.declared.timing.Timing.{Timing}
 use Rattle.model.specs.declared.row.Row.{Row}
 use Rattle.model.specs.declared.fault.NamingFault.{NamingFault}
 use Rattle.processor.specs.Keys.{has_key}
 use Rattle.board.specs.Timed.{timed_by}
-use Rattle.processor.specs.Gathering.{candidate, due, others}
+use Rattle.processor.specs.Gathering.{candidate, others}
 use Rattle.board.specs.Withdraw.{sum_over, without, whole, gather, gather_from, known, withdrawn, withdrawal}
 use Rattle.processor.specs.Candidate.{Candidate}
 use Rattle.board.specs.Withdraws.{WholeForm, Gathers, nobody, stays, joins, Visits, done, passed, visited, Withdraws, refused, gone}

@@ -1,13 +1,13 @@
 -- Withdrawal: a reservation's rows are removed, and split reservations give way to one whole row where it then fits. Assumes nothing.
 use Rattle.std.specs.Prelude.{ℕ, suc, ◌+◌, Bool, true, false, cond, not, ◌&&◌, List, [], ◌∷◌, ◌++◌, map, Some, None, Ok, Err, Option, Result, nat_lt, slice_index_or}
-use Rattle.model.specs.Row.{timings}
+use Rattle.model.specs.Row.{timings, due}
 use Rattle.model.specs.declared.timing.Timing.{Timing}
 use Rattle.model.specs.declared.row.Kind.{Kind}
 use Rattle.model.specs.declared.row.Row.{Row}
 use Rattle.model.specs.declared.fault.NamingFault.{NamingFault}
 use Rattle.processor.specs.Few.{held}
 use Rattle.processor.specs.Keys.{has_key}
-use Rattle.processor.specs.Gathering.{others, candidate, due, sum_on}
+use Rattle.processor.specs.Gathering.{others, candidate, sum_on}
 use Rattle.board.specs.declared.gathered.Gathered.{Gathered}
 use Rattle.board.specs.Plan.{append}
 use Rattle.board.specs.Timed.{timed}

@@ -1,11 +1,11 @@
 -- Withdrawal by its rules: which answer and which plan they allow. Assumes nothing.
 use Rattle.std.specs.Prelude.{◌≡◌, ℕ, suc, Bool, true, false, List, [], ◌∷◌, ◌++◌, map, Ok, Err, Result, slice_index_or}
-use Rattle.model.specs.Row.{timings}
+use Rattle.model.specs.Row.{timings, due}
 use Rattle.model.specs.declared.timing.Timing.{Timing}
 use Rattle.model.specs.declared.row.Row.{Row}
 use Rattle.model.specs.declared.fault.NamingFault.{NamingFault}
 use Rattle.processor.specs.Keys.{has_key}
-use Rattle.processor.specs.Gathering.{due, others}
+use Rattle.processor.specs.Gathering.{others}
 use Rattle.board.specs.Withdraw.{sum_over, without, regrouped, known}
 use Rattle.processor.specs.Candidate.{Candidate}
 

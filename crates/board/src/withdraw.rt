@@ -1,11 +1,11 @@
 // Withdraw: a reservation's rows are removed, and split reservations are gathered where they then fit whole.
 ghost use Rattle.std.specs.Prelude.{◌≡◌, ℕ, ◌<◌, List, map, length, vec_len, Result};
+ghost use Rattle.model.specs.Row.{due};
 ghost use Rattle.model.specs.declared.row.Row.{Row};
 ghost use Rattle.model.specs.declared.fault.NamingFault.{NamingFault};
 ghost use Rattle.board.specs.Plan.{plan};
 ghost use Rattle.processor.specs.Few.{held};
 ghost use Rattle.processor.specs.Keys.{has_key};
-ghost use Rattle.processor.specs.Gathering.{due};
 ghost use Rattle.board.specs.Withdraw.{without, sum_over, gather, gather_from, withdrawal, told};
 ghost use Rattle.board.specs.Withdraws.{Withdraws};
 

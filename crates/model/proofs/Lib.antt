@@ -1,3 +1,4 @@
 pub mod Bounds
 pub mod Ceiling
 pub mod Spare
+pub mod Sums

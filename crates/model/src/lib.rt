@@ -3,8 +3,10 @@
 
 pub mod fault;
 pub mod judge;
+pub mod kind;
 pub mod limits;
 pub mod row;
 pub mod share;
 pub mod theorems;
 pub mod timing;
+pub mod wanted;

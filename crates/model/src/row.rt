@@ -1,5 +1,5 @@
 // A row of the plan: a timing, and whose it is.
-ghost use Rattle.std.specs.Prelude.{◌≡◌};
+ghost use Rattle.std.specs.Prelude.{◌≡◌, ◌≤◌};
 
 use crate::timing::Timing;
 

@@ -5,9 +5,9 @@ use Rattle.std.proofs.lemmas.List.Elements.{filter_more}
 use Rattle.std.proofs.lemmas.List.Filters.{length-filter_both}
 use Rattle.model.specs.declared.timing.Timing.{Timing}
 use Rattle.model.specs.declared.row.Row.{Row}
-use Rattle.model.specs.Row.{timings}
-use Rattle.processor.specs.Keys.{is_of, is_tail}
-use Rattle.processor.specs.Gathering.{tail_among, is_head, over, heaviest, other, others}
+use Rattle.model.specs.Row.{timings, is_head, is_tail}
+use Rattle.processor.specs.Keys.{is_of}
+use Rattle.processor.specs.Gathering.{tail_among, over, heaviest, other, others}
 use Rattle.processor.proofs.Steps.{step}
 
 module _ (rows : List Row) (i : ℕ) (x : Row) (h : i < length rows) (here : x ≡ get_or rows i x) where

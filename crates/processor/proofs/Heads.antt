@@ -1,5 +1,6 @@
 -- The candidate is what the rules say, and nothing else is. Assumes nothing.
 use Rattle.std.proofs.Common.{◌≡◌, ℕ, Bool, true, false, cond, ◌&&◌, ◌||◌, eqb, ltb, List, [], ◌∷◌, ◌++◌, Some, None, Option, sym, refl, ap, ◌∙◌, subst, append_assoc, append-nil, arith}
+use Rattle.model.specs.Row.{is_head, is_tail}
 use borrow.Author.Tests.{clash}
 use Rattle.std.specs.List.{AllByRecursion}
 use Rattle.std.proofs.ByRecursion.{All-append, All-push, All-weaker}
@@ -8,8 +9,7 @@ use Rattle.model.specs.Scale.{scale}
 use Rattle.model.specs.Share.{share}
 use Rattle.model.specs.declared.row.Row.{Row}
 use Rattle.placement.proofs.Foremost.{all_middle, no_middle}
-use Rattle.processor.specs.Keys.{is_tail}
-use Rattle.processor.specs.Gathering.{tail_among, is_head, heavier, over, heaviest, or_else, candidate}
+use Rattle.processor.specs.Gathering.{tail_among, heavier, over, heaviest, or_else, candidate}
 use Rattle.processor.specs.Candidate.{tails, heads, Heaviest, Candidate, by_tail, by_head}
 
 -- the order by which heads are compared: the larger first, then the lower key

@@ -1,9 +1,9 @@
 -- Which reservation is to be gathered on a processor, by the rules. Assumes nothing.
 use Rattle.std.specs.Prelude.{◌≡◌, true, false, List, [], ◌∷◌, ◌++◌, filter}
+use Rattle.model.specs.Row.{is_head, is_tail}
 use Rattle.std.specs.List.{AllByRecursion}
 use Rattle.model.specs.declared.row.Row.{Row}
-use Rattle.processor.specs.Keys.{is_tail}
-use Rattle.processor.specs.Gathering.{is_head, heavier}
+use Rattle.processor.specs.Gathering.{heavier}
 
 -- the tails among a processor's rows
 abbrev pub tails : List Row → List Row

@@ -1,10 +1,10 @@
 -- What a withdrawal asks of one processor's rows. Assumes nothing.
-use Rattle.std.specs.Prelude.{ℕ, ◌+◌, Bool, true, false, cond, not, ◌&&◌, ◌||◌, List, [], ◌∷◌, Some, None, filter, Option, ◌==◌, nat_lt}
+use Rattle.std.specs.Prelude.{ℕ, ◌+◌, Bool, cond, not, ◌&&◌, ◌||◌, List, [], ◌∷◌, Some, None, filter, Option, ◌==◌, nat_lt}
+use Rattle.model.specs.Row.{is_tail, is_head}
 use Rattle.model.specs.Scale.{scale}
 use Rattle.model.specs.Share.{share}
-use Rattle.model.specs.declared.row.Kind.{Kind}
 use Rattle.model.specs.declared.row.Row.{Row}
-use Rattle.processor.specs.Keys.{is_of, is_tail}
+use Rattle.processor.specs.Keys.{is_of}
 
 -- a row of another reservation
 abbrev pub other : ℕ → Row → Bool
@@ -18,12 +18,6 @@ others key = filter (other key)
 abbrev pub tail_among : List Row → Option Row
 tail_among [] = None
 tail_among (row ∷ rows) = cond (is_tail row.kind) (Some row) (tail_among rows)
-
--- a row is the head of a split reservation
-abbrev pub is_head : Kind → Bool
-is_head Kind.Whole = false
-is_head Kind.Head = true
-is_head (Kind.Tail p) = false
 
 -- a row comes before another as a candidate: a larger share, or the same and a lower key
 abbrev pub heavier : Row → Row → Bool
@@ -49,10 +43,6 @@ or_else None b = b
 -- what is to be gathered on a processor: the reservation whose tail stands there, else that of the heaviest head
 abbrev pub candidate : List Row → Option Row
 candidate rows = or_else (tail_among rows) (heaviest None rows)
-
--- a row's part of its reservation's deadline: a tail adds its budget to the deadline of its head
-abbrev pub due : Row → ℕ
-due row = cond (is_tail row.kind) row.timing.budget row.timing.deadline
 
 -- a measure of a row, if it is of this reservation
 abbrev pub if_of : (Row → ℕ) → ℕ → Row → ℕ

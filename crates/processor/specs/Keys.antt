@@ -1,6 +1,6 @@
 -- Which reservations have rows in a list. Assumes nothing.
-use Rattle.std.specs.Prelude.{ℕ, ◌+◌, Bool, true, false, cond, List, [], ◌∷◌, ◌==◌, nat_eq}
-use Rattle.model.specs.declared.row.Kind.{Kind}
+use Rattle.std.specs.Prelude.{ℕ, ◌+◌, Bool, cond, List, [], ◌∷◌, ◌==◌, nat_eq}
+use Rattle.model.specs.Row.{is_tail}
 use Rattle.model.specs.declared.row.Row.{Row}
 use Rattle.processor.specs.Any.{any}
 
@@ -11,12 +11,6 @@ is_of key row = row.key == key
 -- a row of this reservation is among these
 abbrev pub has_key : ℕ → List Row → Bool
 has_key key = any (λ row. nat_eq row.key key)
-
--- a row is a tail of a split reservation
-abbrev pub is_tail : Kind → Bool
-is_tail Kind.Whole = false
-is_tail Kind.Head = false
-is_tail (Kind.Tail p) = true
 
 -- a tail is among these rows, anybody's
 abbrev pub has_tail : List Row → Bool

@@ -1,7 +1,8 @@
 // Which reservations have rows here.
 ghost use Rattle.std.specs.Prelude.{◌≡◌, ◌≤◌};
+ghost use Rattle.model.specs.Row.{is_tail};
 ghost use Rattle.processor.specs.Rows.{rows_of};
-ghost use Rattle.processor.specs.Keys.{is_of, has_key, is_tail, has_tail, owners};
+ghost use Rattle.processor.specs.Keys.{is_of, has_key, has_tail, owners};
 
 use crate::rows::Processor;
 use model::row::{Kind, Row};

@@ -1,9 +1,9 @@
 // What a withdrawal asks of a processor, and takes from it: a reservation's rows, and which reservation is to be gathered.
 ghost use Rattle.std.specs.Prelude.{◌≡◌, ◌≤◌, [], ◌∷◌, ◌++◌, None};
-ghost use Rattle.model.specs.Row.{timings};
+ghost use Rattle.model.specs.Row.{timings, due, is_head};
 ghost use Rattle.processor.specs.Rows.{rows_of};
 ghost use Rattle.processor.specs.Few.{held};
-ghost use Rattle.processor.specs.Gathering.{others, tail_among, is_head, heavier, over, heaviest, candidate, due, if_of, sum_on};
+ghost use Rattle.processor.specs.Gathering.{others, tail_among, heavier, over, heaviest, candidate, if_of, sum_on};
 
 use crate::asking::{Timings, question};
 use crate::keys::{is_of, is_tail};

@@ -8,7 +8,7 @@ use Rattle.model.specs.declared.timing.Timing.{Timing}
 use Rattle.model.specs.declared.row.Kind.{Kind}
 use Rattle.model.specs.declared.row.Row.{Row}
 use Rattle.model.specs.declared.fault.RequestFault.{RequestFault}
-use Rattle.model.specs.Row.{timings}
+use Rattle.model.specs.Row.{timings, is_tail}
 use Rattle.runs.specs.Plan.{Reservation}
 use Rattle.promise.specs.Layout.{Layout, layout, layout_rows, Distinct}
 use Rattle.promise.specs.Meaning.{Meaning, Lawful}
@@ -23,7 +23,7 @@ use Rattle.promise.specs.Admits.{Newcomer, Admits, refused, whole, split, no_pla
 use Rattle.board.specs.declared.admission.Placed.{Placed}
 use Rattle.processor.specs.Any.{any}
 use Rattle.board.specs.Admit.{written}
-use Rattle.processor.specs.Keys.{has_key, is_tail}
+use Rattle.processor.specs.Keys.{has_key}
 use Rattle.board.specs.Keys.{stands, reservations}
 use Rattle.board.specs.declared.cut.Cut.{Cut}
 use Rattle.board.specs.Split.{tails}

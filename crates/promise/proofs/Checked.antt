@@ -5,8 +5,8 @@ use Rattle.std.specs.List.{AllByRecursion}
 use Rattle.model.specs.declared.timing.Timing.{Timing}
 use Rattle.model.specs.declared.row.Kind.{Kind}
 use Rattle.model.specs.declared.row.Row.{Row}
-use Rattle.model.specs.Row.{kind_number, timings}
-use Rattle.processor.specs.Keys.{is_tail, owners}
+use Rattle.model.specs.Row.{kind_number, timings, is_tail}
+use Rattle.processor.specs.Keys.{owners}
 use Rattle.board.specs.Keys.{reservations}
 use Rattle.store.specs.declared.entry.Entry.{Entry}
 use Rattle.store.specs.declared.fault.BufferFault.{BufferFault}

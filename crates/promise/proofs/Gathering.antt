@@ -7,11 +7,11 @@ use Rattle.std.proofs.ByRecursion.{has_append_right}
 use Rattle.model.specs.declared.timing.Timing.{Timing}
 use Rattle.model.specs.declared.row.Kind.{Kind}
 use Rattle.model.specs.declared.row.Row.{Row}
-use Rattle.model.specs.Row.{timings}
+use Rattle.model.specs.Row.{timings, due, is_head, is_tail}
 use Rattle.runs.specs.Plan.{Reservation, sum_at, total, span, lasting}
-use Rattle.processor.specs.Keys.{is_tail, has_key}
+use Rattle.processor.specs.Keys.{has_key}
 use Rattle.board.specs.Keys.{reservations}
-use Rattle.processor.specs.Gathering.{is_head, due, sum_on, others}
+use Rattle.processor.specs.Gathering.{sum_on, others}
 use Rattle.board.specs.Withdraw.{sum_over, without, regrouped}
 use Rattle.processor.specs.Candidate.{Candidate, by_tail, by_head}
 use Rattle.board.specs.Withdraws.{Gathers, nobody, stays, joins, Visits, done, passed, visited, Withdraws, refused, gone}

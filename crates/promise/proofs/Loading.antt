@@ -6,13 +6,12 @@ use Rattle.std.specs.List.{ContainsAt as Has, AllByRecursion}
 use Rattle.model.specs.declared.timing.Timing.{Timing}
 use Rattle.model.specs.declared.row.Kind.{Kind}
 use Rattle.model.specs.declared.row.Row.{Row}
-use Rattle.model.specs.Row.{kind_number, timings}
+use Rattle.model.specs.Row.{kind_number, timings, is_tail}
 use Rattle.model.specs.Limits.{timing_fault}
 use Rattle.runs.specs.Plan.{Reservation, sum_at, total}
 use Rattle.board.specs.declared.admission.Placed.{Placed}
 use Rattle.board.specs.declared.cut.Cut.{Cut}
 use Rattle.board.specs.Split.{tails}
-use Rattle.processor.specs.Keys.{is_tail}
 use Rattle.store.specs.declared.entry.Entry.{Entry}
 use Rattle.store.specs.Record.{entry, bad_part, bad_entry}
 use Rattle.store.specs.Keys.{pieces, apart, one_reservation, bad_key, keys, key_fault}

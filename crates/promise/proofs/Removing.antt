@@ -5,7 +5,7 @@ use lib.ListN.{length-map}
 use Rattle.std.specs.List.{ContainsAt as Has}
 use Rattle.std.proofs.ByRecursion.{All-weaker}
 use Rattle.model.specs.declared.row.Row.{Row}
-use Rattle.model.specs.Row.{timings}
+use Rattle.model.specs.Row.{timings, is_tail}
 use Rattle.model.specs.Within.{Within, none, keep, skip}
 use Rattle.runs.specs.Plan.{Reservation}
 use Rattle.promise.specs.Layout.{Layout, layout_rows, Distinct}
@@ -17,7 +17,7 @@ use Rattle.promise.proofs.Rows.{rows_removed}
 use Rattle.promise.proofs.Standing.{one}
 use Rattle.processor.specs.Gathering.{others}
 use Rattle.board.specs.Withdraw.{without}
-use Rattle.processor.specs.Keys.{is_tail, owners}
+use Rattle.processor.specs.Keys.{owners}
 use Rattle.board.specs.Keys.{reservations}
 
 -- what a filter keeps lies within the list

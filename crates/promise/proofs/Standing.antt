@@ -1,5 +1,6 @@
 -- How adding rows changes the number of reservations that stand. Assumes nothing.
 use Rattle.std.proofs.Common.{◌≡◌, ℕ, zero, suc, ◌+◌, ◌-◌, ◌<◌, cond, List, [], ◌∷◌, ◌++◌, length, get_or, set, refl, arith}
+use Rattle.model.specs.Row.{is_tail}
 use Rattle.std.specs.List.{AllByRecursion}
 use Rattle.std.proofs.ByRecursion.{All-weaker}
 use Rattle.model.specs.declared.row.Row.{Row}
@@ -8,7 +9,7 @@ use Rattle.promise.specs.Plan.{Plan, On, rows_at, add}
 use Rattle.promise.proofs.Rows.{on_add}
 use Rattle.board.specs.declared.admission.Placed.{Placed}
 use Rattle.board.specs.Admit.{written}
-use Rattle.processor.specs.Keys.{is_tail, owners}
+use Rattle.processor.specs.Keys.{owners}
 use Rattle.board.specs.Keys.{reservations}
 use Rattle.board.specs.declared.cut.Cut.{Cut}
 use Rattle.board.specs.Split.{tails}

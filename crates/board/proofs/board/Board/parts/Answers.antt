@@ -1,8 +1,9 @@
 use Rattle.std.proofs.Common.{◌≡◌, ℕ, ◌+◌, map, drop, ap, ◌∙◌, arith}
+use Rattle.model.specs.Row.{due}
 use Rattle.std.proofs.lemmas.List.{at_drop_all, length-map}
 use Rattle.model.specs.declared.row.Row.{Row}
 use Rattle.processor.specs.Rows.{rows_of}
-use Rattle.processor.specs.Gathering.{sum_on, due}
+use Rattle.processor.specs.Gathering.{sum_on}
 use Rattle.board.specs.Withdraw.{sum_over}
 use Rattle.processor.proofs.Steps.{step_map}
 use Rattle.board.proofs.board.Board.parts.Goals as goal

@@ -1,6 +1,6 @@
 use Rattle.std.proofs.Common.{◌≡◌, ◌+◌, ◌*◌, ◌≤◌, map, drop}
+use Rattle.model.specs.Row.{due}
 use Rattle.processor.specs.Rows.{rows_of}
-use Rattle.processor.specs.Gathering.{due}
 use Rattle.board.specs.Withdraw.{sum_over}
 use Rattle.board.proofs.board.Board.parts.Given as goal
 

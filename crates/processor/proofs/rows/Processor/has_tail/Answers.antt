@@ -1,6 +1,7 @@
 use Rattle.std.proofs.Common.{sym, ap, ◌∙◌}
+use Rattle.model.specs.Row.{is_tail}
 use Rattle.std.proofs.lemmas.List.{at_drop_all}
-use Rattle.processor.specs.Keys.{has_tail, is_tail}
+use Rattle.processor.specs.Keys.{has_tail}
 use Rattle.processor.proofs.Steps.{any_here, any_past}
 use Rattle.processor.proofs.rows.Processor.has_tail.Goals as goal
 

@@ -1,6 +1,7 @@
 use Rattle.std.proofs.Common.{◌≡◌, ◌+◌, Bool, true, false, cond, drop, sym, ap, ◌∙◌, arith}
+use Rattle.model.specs.Row.{is_tail}
 use Rattle.std.proofs.lemmas.List.{at_drop_all}
-use Rattle.processor.specs.Keys.{owners, is_tail}
+use Rattle.processor.specs.Keys.{owners}
 use Rattle.processor.proofs.Steps.{step}
 use Rattle.processor.proofs.rows.Processor.owners.Goals as goal
 use Rattle.processor.proofs.rows.Processor.owners.Goals.{then-not-is_tail, else-not-is_tail}

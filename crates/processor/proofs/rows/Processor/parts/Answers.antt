@@ -1,7 +1,8 @@
 use Rattle.std.proofs.Common.{◌≡◌, ℕ, ◌+◌, drop, ap, ◌∙◌, arith}
+use Rattle.model.specs.Row.{due}
 use Rattle.std.proofs.lemmas.List.{at_drop_all}
 use Rattle.model.specs.declared.row.Row.{Row}
-use Rattle.processor.specs.Gathering.{if_of, sum_on, due}
+use Rattle.processor.specs.Gathering.{if_of, sum_on}
 use Rattle.processor.proofs.Steps.{step}
 use Rattle.processor.proofs.rows.Processor.parts.Goals as goal
 

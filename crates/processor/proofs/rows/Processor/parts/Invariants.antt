@@ -1,5 +1,6 @@
 use Rattle.std.proofs.Common.{◌≡◌, ◌+◌, ◌*◌, ◌≤◌, drop}
-use Rattle.processor.specs.Gathering.{sum_on, due}
+use Rattle.model.specs.Row.{due}
+use Rattle.processor.specs.Gathering.{sum_on}
 use Rattle.processor.proofs.rows.Processor.parts.Given as goal
 
 abbrev pub invariant-loop-row : goal.invariant-loop-row
