@@ -8,11 +8,13 @@ use Rattle.board.specs.declared.cut.Cut.{Cut}
 use Rattle.processor.specs.Taking.{takes, as_candidate}
 use Rattle.board.specs.Place.{used, open_to, candidates}
 
--- a processor without a part of the newcomer is asked
-pub open_unused :
-    (accepts : List Timing → Bool) (cuts : List Cut) (x : Timing) (p : ℕ) (rows : List Row) →
-    used cuts p ≡ false → takes accepts rows x ≡ open_to accepts cuts x p rows
-open_unused accepts cuts x p rows e = sym (ap (λ b. not b && takes accepts rows x) e)
+module _ (accepts : List Timing → Bool) (cuts : List Cut) (x : Timing) (p : ℕ) (rows : List Row) where
+  -- a processor without a part of the newcomer is asked, and one with a part is not
+  pub open_asked : used cuts p ≡ false → open_to accepts cuts x p rows ≡ takes accepts rows x
+  open_asked e = ap (λ b. not b && takes accepts rows x) e
+
+  pub open_used : used cuts p ≡ true → open_to accepts cuts x p rows ≡ false
+  open_used e = ap (λ b. not b && takes accepts rows x) e
 
 module _ (test : ℕ → List Row → Bool) (plan : List (List Row)) (i : ℕ) where
   pub candidates_more :

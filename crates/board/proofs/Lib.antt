@@ -5,6 +5,7 @@ pub mod Tails
 mod Gathering
 pub mod Splits
 pub mod Writes
+pub mod Walks
 pub mod Requests
 pub mod Rooms
 pub mod Found

@@ -6,7 +6,7 @@ use Rattle.model.specs.declared.row.Row.{Row}
 use Rattle.model.specs.declared.timing.Timing.{Timing}
 use Rattle.board.specs.declared.cut.Cut.{Cut}
 use Rattle.board.specs.declared.admission.Placed.{Placed}
-use Rattle.processor.specs.Any.{any}
+use Rattle.std.specs.List.{list_any}
 use Rattle.board.specs.Plan.{append}
 use Rattle.board.specs.Place.{used}
 use Rattle.board.specs.Split.{tails, split_rows}
@@ -23,7 +23,7 @@ on p row = eqb row.processor p
 -- each row goes to a free processor, and no other row goes there
 abbrev pub Clear : List (List Row) → List Placed → Type 0
 Clear plan [] = Unit {0}
-Clear plan (p ∷ rows) = Free plan p.processor × (any (on p.processor) rows ≡ false) × Clear plan rows
+Clear plan (p ∷ rows) = Free plan p.processor × (list_any (on p.processor) rows ≡ false) × Clear plan rows
 
 or_left : (a b : Bool) → a || b ≡ false → a ≡ false
 or_left false b e = refl
@@ -44,13 +44,13 @@ free_beside plan p q row low apart (some, within, room) =
     )
 
 clear_beside :
-    (plan : List (List Row)) (p : ℕ) (row : Row) (rows : List Placed) → 1 ≤ p → any (on p) rows ≡ false →
+    (plan : List (List Row)) (p : ℕ) (row : Row) (rows : List Placed) → 1 ≤ p → list_any (on p) rows ≡ false →
     Clear plan rows → Clear (append (p - 1) row plan) rows
 clear_beside plan p row [] low none clear = tt
 clear_beside plan p row (q ∷ rows) low none (free, alone, clear) = (
-  free_beside plan p q.processor row low (eqb-false q.processor p (or_left (on p q) (any (on p) rows) none)) free,
+  free_beside plan p q.processor row low (eqb-false q.processor p (or_left (on p q) (list_any (on p) rows) none)) free,
   alone,
-  clear_beside plan p row rows low (or_right (on p q) (any (on p) rows) none) clear,
+  clear_beside plan p row rows low (or_right (on p q) (list_any (on p) rows) none) clear,
 )
 
 pub room_from_clear : (plan : List (List Row)) (rows : List Placed) → Clear plan rows → Room plan rows
@@ -67,7 +67,7 @@ abbrev pub Fresh : List (List Row) → List Cut → Type 0
 Fresh plan [] = Unit {0}
 Fresh plan (cut ∷ older) = Free plan cut.processor × (used older cut.processor ≡ false) × Fresh plan older
 
-tails_used : (key part p : ℕ) (cuts : List Cut) → any (on p) (tails key part cuts) ≡ used cuts p
+tails_used : (key part p : ℕ) (cuts : List Cut) → list_any (on p) (tails key part cuts) ≡ used cuts p
 tails_used key part p [] = refl
 tails_used key part p (cut ∷ cuts) = ap (λ b. eqb cut.processor p || b) (tails_used key (part + 1) p cuts)
 
@@ -77,17 +77,17 @@ tails_clear plan key part (cut ∷ cuts) (free, apart, fresh) =
     (free, tails_used key (part + 1) cut.processor cuts ∙ apart, tails_clear plan key (part + 1) cuts fresh)
 
 -- the order does not matter
-any_append : {A : Type 0} (test : A → Bool) (l m : List A) → any test l ≡ false → any test m ≡ false → any test (l ++ m) ≡ false
+any_append : {A : Type 0} (test : A → Bool) (l m : List A) → list_any test l ≡ false → list_any test m ≡ false → list_any test (l ++ m) ≡ false
 any_append test [] m a b = b
 any_append test (x ∷ l) m a b =
-    ap (λ t. t || any test (l ++ m)) (or_left (test x) (any test l) a) ∙ any_append test l m (or_right (test x) (any test l) a) b
+    ap (λ t. t || list_any test (l ++ m)) (or_left (test x) (list_any test l) a) ∙ any_append test l m (or_right (test x) (list_any test l) a) b
 
-any_reverse : {A : Type 0} (test : A → Bool) (l : List A) → any test l ≡ false → any test (reverse l) ≡ false
+any_reverse : {A : Type 0} (test : A → Bool) (l : List A) → list_any test l ≡ false → list_any test (reverse l) ≡ false
 any_reverse test [] e = refl
 any_reverse test (x ∷ l) e =
-    ap (any test) (reverse-append (x ∷ []) l)
-    ∙ any_append test (reverse l) (x ∷ []) (any_reverse test l (or_right (test x) (any test l) e))
-    (ap (λ t. t || false) (or_left (test x) (any test l) e))
+    ap (list_any test) (reverse-append (x ∷ []) l)
+    ∙ any_append test (reverse l) (x ∷ []) (any_reverse test l (or_right (test x) (list_any test l) e))
+    (ap (λ t. t || false) (or_left (test x) (list_any test l) e))
 
 -- one tail more
 pub fresh_more :

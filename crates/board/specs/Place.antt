@@ -5,12 +5,12 @@ use Rattle.model.specs.declared.row.Row.{Row}
 use Rattle.placement.specs.declared.candidate.Candidate.{Candidate}
 use Rattle.placement.specs.First.{choice}
 use Rattle.board.specs.declared.cut.Cut.{Cut}
-use Rattle.processor.specs.Any.{any}
+use Rattle.std.specs.List.{list_any}
 use Rattle.processor.specs.Taking.{takes, as_candidate}
 
 -- processor p has a tail of the newcomer
 abbrev pub used : List Cut → ℕ → Bool
-used cuts p = any (λ cut. nat_eq cut.processor p) cuts
+used cuts p = list_any (λ cut. nat_eq cut.processor p) cuts
 
 -- processor p can take x: it has no part of the newcomer, a free row, and the judge's yes
 abbrev pub open_to : (List Timing → Bool) → List Cut → Timing → ℕ → List Row → Bool

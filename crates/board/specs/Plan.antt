@@ -2,11 +2,16 @@
 use Rattle.std.specs.Prelude.{ℕ, List, [], ◌∷◌, ◌++◌, map, vec_items, slice_index_or, slice_set}
 use Rattle.model.specs.declared.row.Row.{Row}
 use Rattle.processor.specs.Rows.{rows_of}
+use Rattle.board.specs.declared.plan.Plan.{Plan}
 use Rattle.board.specs.declared.board.Board.{Board}
 
--- a board's plan: the rows of each processor, in their order
+-- the rows of each processor of a plan, in their order
+abbrev pub lists : Plan → List (List Row)
+lists p = map rows_of (vec_items p.processors)
+
+-- a board's plan
 abbrev pub plan : {J P : Type 0} → Board J P → List (List Row)
-plan b = map rows_of (vec_items b.processors)
+plan b = lists b.plan
 
 -- the plan with a row at the end of the list at an index
 abbrev pub append : ℕ → Row → List (List Row) → List (List Row)

@@ -3,6 +3,7 @@ use Rattle.std.specs.Prelude.{◌≡◌, ℕ, ◌+◌, ◌-◌, Bool, cond, List
 use Rattle.model.specs.declared.timing.Timing.{Timing}
 use Rattle.model.specs.declared.row.Row.{Row}
 use Rattle.board.specs.declared.cut.Cut.{Cut}
+use Rattle.board.specs.declared.offer.Offer.{Offer}
 use Rattle.processor.specs.Taking.{offers}
 use Rattle.board.specs.Place.{used}
 use Rattle.board.specs.Timed.{timed}
@@ -18,6 +19,11 @@ offer_at allows cuts t c p rows = cond (used cuts p) 0 (offers allows rows t c)
 -- a longer tail takes the place of the longest so far
 abbrev pub longer : ℕ → ℕ → ℕ × ℕ → ℕ × ℕ
 longer p b best = cond (nat_lt best.1 b) (p, b) best
+
+-- what the longest offer so far is: its processor and its budget, which is 0 where there is none
+abbrev pub found_offer : Option Offer → ℕ × ℕ
+found_offer (Some o) = (o.processor, o.budget)
+found_offer None = (0, 0)
 
 -- the longest of these, of the processors numbered from p on: the processor and the budget
 abbrev pub longest : (ℕ → List Row → ℕ) → ℕ → List (List Row) → ℕ × ℕ → ℕ × ℕ

@@ -66,6 +66,11 @@ abbrev pub withdrawal : (List Timing → Bool) → ℕ → List (List Row) → R
 withdrawal accepts key plan =
     cond (known key plan) (Ok (withdrawn accepts key plan).0, (withdrawn accepts key plan).1) (Err NamingFault.Key, plan)
 
+-- the key that was gathered, or 0
+abbrev pub key_or_zero : Option ℕ → ℕ
+key_or_zero (Some key) = key
+key_or_zero None = 0
+
 -- the keys in an answer
 abbrev pub told : Result Gathered NamingFault → Result (List ℕ) NamingFault
 told (Ok gathered) = Ok (held gathered.keys)

@@ -1,40 +1,36 @@
 // Admit: the newcomer whole where some processor takes it, else split, or the first refusal that applies. All is decided
 // before the first row is written, so a refusal has nothing to undo.
 ghost use Rattle.std.specs.Prelude.{◌≡◌, [], ◌∷◌};
-ghost use Rattle.board.specs.Plan.{plan};
+ghost use Rattle.board.specs.Plan.{plan, lists};
 ghost use Rattle.board.specs.Request.{has_room, Requested};
 ghost use Rattle.board.specs.Admission.{made_rows, rows_found};
 ghost use Rattle.board.specs.Admit.{decided, admitted, written, after, Room, RoomFor, told};
 
 use crate::admission::{Admission, Placed};
 use crate::board::Board;
+use crate::plan::Plan;
 use model::fault::RequestFault;
 use model::judge::SizingJudge;
 use model::row::{Kind, Row};
 use model::timing::Timing;
+use model::wanted::Wanted;
 use placement::rule::Placement;
 use processor::few::Few;
 
 pub const MOST_RESERVATIONS: usize = 64;
 
 impl<J: SizingJudge, P: Placement> Board<J, P> {
-    pub fn admit(
-        &mut self,
-        key: u32,
-        budget: u32,
-        deadline: u32,
-        period: u32,
-    ) -> Result<Admission, RequestFault>
-        ensures answer { told result ≡ admitted P.Rank.Rank.first (P.ranks self.old.rule) (J.Judge.accepts self.old.judge) (J.allows self.old.judge) (plan self.old) key budget deadline period }
+    pub fn admit(&mut self, wanted: Wanted) -> Result<Admission, RequestFault>
+        ensures answer { told result ≡ admitted P.Rank.Rank.first (P.ranks self.old.rule) (J.Judge.accepts self.old.judge) (J.allows self.old.judge) (plan self.old) wanted.key wanted.budget wanted.deadline wanted.period }
         ensures after { plan self.new ≡ after (plan self.old) (told result) }
         ensures judge { self.new.judge ≡ self.old.judge }
         ensures rule { self.new.rule ≡ self.old.rule }
     {
-        let newcomer = self.request(key, budget, deadline, period)?;
-        let Some(admission) = self.decide(key as u16, newcomer) else {
-            return Err(RequestFault::NoPlace);
-        };
-        self.write(&admission);
+        let newcomer = self.plan.request(wanted)?;
+        let admission = self
+            .decide(wanted.key as u16, newcomer)
+            .ok_or(RequestFault::NoPlace)?;
+        self.plan.write(&admission);
         Ok(admission)
     }
 
@@ -74,22 +70,16 @@ impl Admission {
     }
 }
 
-impl<J, P> Board<J, P> {
+impl Plan {
     // The newcomer's timing, or the first refusal that applies.
-    fn request(
-        &self,
-        key: u32,
-        budget: u32,
-        deadline: u32,
-        period: u32,
-    ) -> Result<Timing, RequestFault>
-        ensures { Requested key budget deadline period (plan self.now) result }
+    fn request(&self, wanted: Wanted) -> Result<Timing, RequestFault>
+        ensures { Requested wanted.key wanted.budget wanted.deadline wanted.period (lists self.now) result }
     {
-        if key < 1 || key > 65535 {
+        if wanted.key < 1 || wanted.key > 65535 {
             return Err(RequestFault::Key);
         }
-        let newcomer = Timing::new(budget, deadline, period)?;
-        if self.stands(key as u16) {
+        let newcomer = Timing::new(wanted.budget, wanted.deadline, wanted.period)?;
+        if self.stands(wanted.key as u16) {
             return Err(RequestFault::Stands);
         }
         if !self.has_room() {
@@ -100,17 +90,15 @@ impl<J, P> Board<J, P> {
 
     // Whether one reservation more may stand.
     fn has_room(&self) -> bool
-        ensures { result ≡ has_room (plan self.now) }
+        ensures { result ≡ has_room (lists self.now) }
     {
         self.reservations() < MOST_RESERVATIONS
     }
 
     // Each row goes to the end of its processor's list.
     fn write(&mut self, admission: &Admission)
-        requires { Room (plan self.old) (made_rows admission.now) }
-        ensures after { plan self.new ≡ written (plan self.old) (made_rows admission.now) }
-        ensures judge { self.new.judge ≡ self.old.judge }
-        ensures rule { self.new.rule ≡ self.old.rule }
+        requires { Room (lists self.old) (made_rows admission.now) }
+        ensures { lists self.new ≡ written (lists self.old) (made_rows admission.now) }
     {
         for placed in admission.rows() {
             self.processors[placed.processor as usize - 1].add(placed.row);

@@ -1,13 +1,9 @@
-// A board: its processors, the judge that it asks and the rule by which it chooses among processors.
-ghost use Rattle.std.specs.Prelude.{◌≤◌, vec_len};
-
-use processor::rows::Processor;
+// A board: its plan, the judge that it asks and the rule by which it chooses among processors.
+use crate::plan::Plan;
 
 #[derive(Drop)]
 pub struct Board<J, P> {
     pub judge: J,
     pub rule: P,
-    pub processors: Vec<Processor>,
-    ghost some: { 1 ≤ vec_len processors },
-    ghost eight: { vec_len processors ≤ 8 },
+    pub plan: Plan,
 }

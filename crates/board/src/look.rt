@@ -1,10 +1,11 @@
 // Look: the row at a processor and a position, both counted from 1.
 ghost use Rattle.std.specs.Prelude.{◌≡◌};
-ghost use Rattle.board.specs.Plan.{plan};
+ghost use Rattle.board.specs.Plan.{plan, lists};
 ghost use Rattle.processor.specs.Look.{counted};
 ghost use Rattle.board.specs.Look.{rows_seen, looked};
 
 use crate::board::Board;
+use crate::plan::Plan;
 use model::fault::NamingFault;
 use model::row::Row;
 use processor::rows::Processor;
@@ -13,19 +14,16 @@ impl<J, P> Board<J, P> {
     pub fn look(&self, processor: u32, position: u32) -> Result<Row, NamingFault>
         ensures { result ≡ looked (plan self.now) processor position }
     {
-        match self.processor_at(processor) {
-            Some(found) => found.look(position),
-            None => Err(NamingFault::Row),
-        }
+        let found = self.plan.processor(processor).ok_or(NamingFault::Row)?;
+        found.look(position)
     }
+}
 
-    fn processor_at(&self, number: u32) -> Option<&Processor>
-        ensures { rows_seen result ≡ counted (plan self.now) number }
+impl Plan {
+    fn processor(&self, number: u32) -> Option<&Processor>
+        ensures { rows_seen result ≡ counted (lists self.now) number }
     {
-        let count = self.processors.len();
-        if number < 1 || number as usize > count {
-            return None;
-        }
-        Some(&self.processors[number as usize - 1])
+        let index = (number as usize).checked_sub(1)?;
+        self.processors.get(index)
     }
 }

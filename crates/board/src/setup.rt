@@ -4,6 +4,7 @@ ghost use Rattle.board.specs.declared.setup.SetupError.TheVariants.{Memory};
 ghost use Rattle.board.specs.Setup.{Set};
 
 use crate::board::Board;
+use crate::plan::Plan;
 use model::fault::SetupFault;
 use processor::rows::Processor;
 use std::alloc::{AllocError, Global};
@@ -39,7 +40,7 @@ impl<J: Drop, P: Drop> Board<J, P> {
         Ok(Board {
             judge,
             rule,
-            processors: made,
+            plan: Plan { processors: made },
         })
     }
 }

@@ -1,12 +1,13 @@
 // The longest tail that a processor takes, and the tail that is set: what a judge must say more than yes or no for.
-ghost use Rattle.std.specs.Prelude.{◌≡◌, ◌+◌, ◌-◌, ◌<◌, ◌≤◌, [], vec_len, slice_index_or};
+ghost use Rattle.std.specs.Prelude.{◌≡◌, ◌-◌, ◌<◌, ◌≤◌};
 ghost use Rattle.board.specs.Plan.{plan};
 ghost use Rattle.processor.specs.Rows.{rows_of};
 ghost use Rattle.processor.specs.Taking.{offers};
-ghost use Rattle.board.specs.Tail.{unless_beside, offer_at, longer, tail_search, TailOf, RestOf, next_cut};
+ghost use Rattle.board.specs.Tail.{unless_beside, found_offer, longer, tail_search, TailOf, RestOf, next_cut};
 
 use crate::board::Board;
 use crate::cut::Cut;
+use crate::offer::Offer;
 use crate::placing::used;
 use model::judge::SizingJudge;
 use model::timing::Timing;
@@ -17,35 +18,26 @@ impl<J: SizingJudge, P> Board<J, P> {
     pub fn next_cut(&self, cuts: &[Cut], head: Timing) -> Option<(Cut, Timing)>
         ensures { result ≡ next_cut (J.SizingJudge.allows self.now.judge) (plan self.now) cuts.now head }
     {
-        let (processor, budget) = self.find_tail(cuts, head.period, head.budget - 1);
-        if budget == 0 {
-            return None;
-        }
-        let timing = tail_of(head, budget);
-        Some((Cut { processor, timing }, rest_of(head, budget)))
+        let offer = self.longest_offer(cuts, head.period, head.budget - 1)?;
+        let cut = Cut {
+            processor: offer.processor,
+            timing: tail_of(head, offer.budget),
+        };
+        Some((cut, rest_of(head, offer.budget)))
     }
 
-    // The processor that takes the longest tail, and its budget: 0 where no processor takes one.
-    fn find_tail(&self, cuts: &[Cut], period: u32, cap: u32) -> (u8, u32)
-        ensures value { result ≡ tail_search (J.SizingJudge.allows self.now.judge) (plan self.now) cuts.now period cap }
-        ensures bound { result.1 ≤ cap }
+    // The longest tail that a processor takes; of equal ones the lower processor's.
+    fn longest_offer(&self, cuts: &[Cut], period: u32, cap: u32) -> Option<Offer>
+        ensures value { found_offer result ≡ tail_search (J.SizingJudge.allows self.now.judge) (plan self.now) cuts.now period cap }
+        ensures bound { (found_offer result).1 ≤ cap }
     {
-        let mut best = (0u8, 0u32);
-        for i in 0..self.processors.len() {
-            let budget = self.offer_at(i, cuts, period, cap);
-            best = longer(i as u8 + 1, budget, best);
+        let mut best = None;
+        for (i, processor) in self.plan.processors.iter().enumerate() {
+            let number = i as u8 + 1;
+            let budget = offer(&self.judge, processor, used(cuts, number), period, cap);
+            best = longer(number, budget, best);
         }
         best
-    }
-
-    // The longest tail that the processor at this index takes.
-    fn offer_at(&self, index: usize, cuts: &[Cut], period: u32, cap: u32) -> u32
-        requires { index < vec_len self.now.processors }
-        ensures value { result ≡ offer_at (J.SizingJudge.allows self.now.judge) cuts.now period cap (index + 1) (slice_index_or (plan self.now) index []) }
-        ensures bound { result ≤ cap }
-    {
-        let beside = used(cuts, index as u8 + 1);
-        offer(&self.judge, &self.processors[index], beside, period, cap)
     }
 }
 
@@ -67,11 +59,11 @@ fn offer<J: SizingJudge>(
 }
 
 // A longer tail takes the place of the longest so far.
-fn longer(processor: u8, budget: u32, best: (u8, u32)) -> (u8, u32)
-    ensures { result ≡ longer processor budget best }
+fn longer(processor: u8, budget: u32, best: Option<Offer>) -> Option<Offer>
+    ensures { found_offer result ≡ longer processor budget (found_offer best) }
 {
-    if budget > best.1 {
-        (processor, budget)
+    if budget > best.map_or(0, |offer| offer.budget) {
+        Some(Offer { processor, budget })
     } else {
         best
     }

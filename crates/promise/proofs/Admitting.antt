@@ -21,7 +21,7 @@ use Rattle.promise.proofs.Layouts.{layout_keys, Taken, layout_taken, layout_apar
 use Rattle.promise.proofs.Placing.{GoodLayout, splits_good}
 use Rattle.promise.specs.Admits.{Newcomer, Admits, refused, whole, split, no_place}
 use Rattle.board.specs.declared.admission.Placed.{Placed}
-use Rattle.processor.specs.Any.{any}
+use Rattle.std.specs.List.{list_any}
 use Rattle.board.specs.Admit.{written}
 use Rattle.processor.specs.Keys.{has_key}
 use Rattle.board.specs.Keys.{stands, reservations}
@@ -58,11 +58,11 @@ pub lies_stands : (plan : Plan) (x : Reservation) (o : Layout) → Lies plan x o
 lies_stands plan x o h = let f = lies_first plan x o h in (f.0, (f.1, (f.2.0, f.2.1, f.2.2)))
 
 -- what stands is found
-any_has : {A : Type 0} (test : A → Bool) (l : List A) (y : A) → Has l y → test y ≡ true → any test l ≡ true
+any_has : {A : Type 0} (test : A → Bool) (l : List A) (y : A) → Has l y → test y ≡ true → list_any test l ≡ true
 any_has test [] y h pass = absurd (has_none y h)
-any_has test (x ∷ l) y h pass = ⊎_elim (λ e. ap (λ b. b || any test l) (ap test e ∙ pass)) (λ k. either (test x) (any_has test l y k pass)) (has_cases x l y h)
+any_has test (x ∷ l) y h pass = ⊎_elim (λ e. ap (λ b. b || list_any test l) (ap test e ∙ pass)) (λ k. either (test x) (any_has test l y k pass)) (has_cases x l y h)
   where
-    either : (b : Bool) → any test l ≡ true → (b || any test l) ≡ true
+    either : (b : Bool) → list_any test l ≡ true → (b || list_any test l) ≡ true
     either true e = refl
     either false e = e
 
