@@ -28,7 +28,9 @@ impl<J: Judge, P> Board<J, P> {
         ensures judge { self.new.judge ≡ self.old.judge }
         ensures rule { self.new.rule ≡ self.old.rule }
     {
-        let key = u16::try_from(key).ok().ok_or(NamingFault::Key)?;
+        let Ok(key) = u16::try_from(key) else {
+            return Err(NamingFault::Key);
+        };
         if !self.plan.stands(key) {
             return Err(NamingFault::Key);
         }

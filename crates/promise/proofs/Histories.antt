@@ -35,11 +35,10 @@ use Rattle.promise.specs.Plan.{Plan, On}
 use Rattle.promise.specs.Choosing.{rows_at, Takes, FirstTaker}
 use Rattle.promise.specs.Admits.{Admits, refused, whole, split, no_place, Splits, ended, headed, further, Applies}
 use Rattle.promise.specs.Kept.{Kept}
-use Rattle.promise.specs.History.{Derived, Tells, History, begins, goes_on, accepted_next, accepted_after}
+use Rattle.promise.specs.History.{Derived, History, begins, goes_on, accepted_next, accepted_after}
 use Rattle.promise.specs.Promise.{meant, NoPlace, FirstInRank, Along, Promised, Shown}
 use Rattle.promise.proofs.Rows.{length_adds}
 use Rattle.promise.proofs.Placing.{none_dense}
-use Rattle.promise.proofs.Admissions.{admits_told}
 use Rattle.promise.proofs.Admitting.{kept_admits}
 use Rattle.promise.proofs.Gathering.{kept_withdraws}
 use Rattle.promise.proofs.Timely.{kept_never_late}
@@ -52,16 +51,6 @@ pub history_push : {R : Type 0} {m : Meaning R} {plan last next : Plan} {calls :
     → History m plan calls answers last → Derived m last call answer next → History m plan (calls ++ (call ∷ [])) (answers ++ (answer ∷ [])) next
 history_push call answer begins d = goes_on d begins
 history_push call answer (goes_on e rest) d = goes_on e (history_push call answer rest d)
-
--- what an admission tells follows by the rules
-pub admits_tells : {R : Type 0} (first : R → R → Bool) (ranks : ℕ → ℤ → ℕ → R) (accepts : List Timing → Bool) (allows : List Timing → ℕ → ℕ → ℕ) (plan : Plan) (key : ℕ)
-    → ((a b c : R) → first a b ≡ true → first b c ≡ true → first a c ≡ true) → ((a b : R) → first a b ≡ false → first b a ≡ false → a ≡ b)
-    → ((l : List Timing) (t c : ℕ) → allows l t c ≤ c) → 1 ≤ length plan → (c d t : ℕ) (answer : Answer) (last : Plan) → Tells (admitted first ranks accepts allows plan key c d t) answer
-    → last ≡ after plan (admitted first ranks accepts allows plan key c d t) → Derived (meant first ranks accepts allows) plan (Call.Admit key c d t) answer last
-admits_tells first ranks accepts allows plan key chain total capped some c d t (Answer.Admitted r) last is same =
-    admits_told first ranks accepts allows plan key chain total capped some c d t (told r) last is (same ∙ ap (after plan) (sym is))
-admits_tells first ranks accepts allows plan key chain total capped some c d t (Answer.Withdrawn r) last is same = absurd is
-admits_tells first ranks accepts allows plan key chain total capped some c d t (Answer.Loaded r) last is same = absurd is
 
 -- an empty board has no rows
 pub empty_rows : (k i : ℕ) → get_or {A = List Row} (replicate k []) i [] ≡ []
@@ -127,12 +116,12 @@ module _ {R : Type 0} (m : Meaning R) (law : Lawful m) where
   -- every call keeps the invariant, for the reservations that are then accepted
   kept_derived : (plan : Plan) (accepted : List Reservation) (call : Call) (answer : Answer) (next : Plan) → 1 ≤ length plan → Kept m plan accepted → Derived m plan call answer next
       → Kept m next (accepted_next accepted call answer) × (length next ≡ length plan)
-  kept_derived plan accepted (Call.Admit k c d t) (Answer.Admitted (Ok a)) next some kept h =
-      (kept_admits m law plan accepted kept k c d t (made_rows a) next h, ok_written plan k c d t (made_rows a) next h)
-  kept_derived plan accepted (Call.Admit k c d t) (Answer.Admitted (Err f)) next some kept h =
+  kept_derived plan accepted (Call.Admit w) (Answer.Admitted (Ok a)) next some kept h =
+      (kept_admits m law plan accepted kept w.key w.budget w.deadline w.period (made_rows a) next h, ok_written plan w.key w.budget w.deadline w.period (made_rows a) next h)
+  kept_derived plan accepted (Call.Admit w) (Answer.Admitted (Err f)) next some kept h =
       let same = err_same plan k c d t f next h in (subst (λ q. Kept m q accepted) (sym same) kept, ap length same)
-  kept_derived plan accepted (Call.Admit k c d t) (Answer.Withdrawn r) next some kept h = absurd h
-  kept_derived plan accepted (Call.Admit k c d t) (Answer.Loaded r) next some kept h = absurd h
+  kept_derived plan accepted (Call.Admit w) (Answer.Withdrawn r) next some kept h = absurd h
+  kept_derived plan accepted (Call.Admit w) (Answer.Loaded r) next some kept h = absurd h
   kept_derived plan accepted (Call.Withdraw k) (Answer.Admitted r) next some kept h = absurd h
   kept_derived plan accepted (Call.Withdraw k) (Answer.Withdrawn (Ok g)) next some kept h = kept_withdraws m law plan accepted k _ next kept h
   kept_derived plan accepted (Call.Withdraw k) (Answer.Withdrawn (Err f)) next some kept h =
@@ -153,10 +142,10 @@ module _ {R : Type 0} (m : Meaning R) (law : Lawful m) where
 
   keyed_derived : (plan : Plan) (accepted : List Reservation) (call : Call) (answer : Answer) (next : Plan) → AllByRecursion (λ x. 1 ≤ x.key) accepted → Derived m plan call answer next
       → AllByRecursion (λ x. 1 ≤ x.key) (accepted_next accepted call answer)
-  keyed_derived plan accepted (Call.Admit k c d t) (Answer.Admitted (Ok a)) next keyed h = (admitted_key plan k c d t (made_rows a) next h, keyed)
-  keyed_derived plan accepted (Call.Admit k c d t) (Answer.Admitted (Err f)) next keyed h = keyed
-  keyed_derived plan accepted (Call.Admit k c d t) (Answer.Withdrawn r) next keyed h = absurd h
-  keyed_derived plan accepted (Call.Admit k c d t) (Answer.Loaded r) next keyed h = absurd h
+  keyed_derived plan accepted (Call.Admit w) (Answer.Admitted (Ok a)) next keyed h = (admitted_key plan w.key w.budget w.deadline w.period (made_rows a) next h, keyed)
+  keyed_derived plan accepted (Call.Admit w) (Answer.Admitted (Err f)) next keyed h = keyed
+  keyed_derived plan accepted (Call.Admit w) (Answer.Withdrawn r) next keyed h = absurd h
+  keyed_derived plan accepted (Call.Admit w) (Answer.Loaded r) next keyed h = absurd h
   keyed_derived plan accepted (Call.Withdraw k) (Answer.Admitted r) next keyed h = absurd h
   keyed_derived plan accepted (Call.Withdraw k) (Answer.Withdrawn (Ok g)) next keyed h = all_kept_by (λ x. not (eqb x.key k)) (λ x. 1 ≤ x.key) accepted keyed
   keyed_derived plan accepted (Call.Withdraw k) (Answer.Withdrawn (Err f)) next keyed h = keyed
@@ -221,16 +210,16 @@ module _ {R : Type 0} (m : Meaning R) (law : Lawful m) where
       absurd (let z : ◌≡◌ {A = ℕ} 0 1 = cc in omega arith)
 
   no_place_step : (plan : Plan) (call : Call) (answer : Answer) (next : Plan) → Derived m plan call answer next → NoPlace plan call answer
-  no_place_step plan (Call.Admit k c d t) (Answer.Admitted r) next h = λ e x a b f p on free. dense_if k c d t plan (told r) next h e x a b f p on free
-  no_place_step plan (Call.Admit k c d t) (Answer.Withdrawn r) next h = tt
-  no_place_step plan (Call.Admit k c d t) (Answer.Loaded r) next h = tt
+  no_place_step plan (Call.Admit w) (Answer.Admitted r) next h = λ e x a b f p on free. dense_if w.key w.budget w.deadline w.period plan (told r) next h e x a b f p on free
+  no_place_step plan (Call.Admit w) (Answer.Withdrawn r) next h = tt
+  no_place_step plan (Call.Admit w) (Answer.Loaded r) next h = tt
   no_place_step plan (Call.Withdraw k) answer next h = tt
   no_place_step plan (Call.Load image) answer next h = tt
 
   first_step : (plan : Plan) (call : Call) (answer : Answer) (next : Plan) → Derived m plan call answer next → FirstInRank m plan call answer
-  first_step plan (Call.Admit k c d t) (Answer.Admitted r) next h = λ p x e. first_if k c d t plan (told r) next h p x e
-  first_step plan (Call.Admit k c d t) (Answer.Withdrawn r) next h = tt
-  first_step plan (Call.Admit k c d t) (Answer.Loaded r) next h = tt
+  first_step plan (Call.Admit w) (Answer.Admitted r) next h = λ p x e. first_if w.key w.budget w.deadline w.period plan (told r) next h p x e
+  first_step plan (Call.Admit w) (Answer.Withdrawn r) next h = tt
+  first_step plan (Call.Admit w) (Answer.Loaded r) next h = tt
   first_step plan (Call.Withdraw k) answer next h = tt
   first_step plan (Call.Load image) answer next h = tt
 

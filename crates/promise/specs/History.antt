@@ -19,21 +19,15 @@ use Rattle.promise.specs.Stored.{stored_reservations}
 -- what the rules allow: the answer to a call on a plan, and the plan afterwards. For a load they are said twice: in the words of the format,
 -- and by the definition that computes them, which leaves no choice.
 abbrev pub Derived : {R : Type 0} → Meaning R → Plan → Call → Answer → Plan → Type 0
-Derived m plan (Call.Admit k c d t) (Answer.Admitted r) after = Admits m.before m.rank m.accepts m.allows plan k c d t (told_rows r) after
-Derived m plan (Call.Admit k c d t) (Answer.Withdrawn r) after = ⊥
-Derived m plan (Call.Admit k c d t) (Answer.Loaded r) after = ⊥
+Derived m plan (Call.Admit w) (Answer.Admitted r) after = Admits m.before m.rank m.accepts m.allows plan w.key w.budget w.deadline w.period (told_rows r) after
+Derived m plan (Call.Admit w) (Answer.Withdrawn r) after = ⊥
+Derived m plan (Call.Admit w) (Answer.Loaded r) after = ⊥
 Derived m plan (Call.Withdraw k) (Answer.Admitted r) after = ⊥
 Derived m plan (Call.Withdraw k) (Answer.Withdrawn r) after = Withdraws m.accepts k plan (told_keys r) after
 Derived m plan (Call.Withdraw k) (Answer.Loaded r) after = ⊥
 Derived m plan (Call.Load image) (Answer.Admitted r) after = ⊥
 Derived m plan (Call.Load image) (Answer.Withdrawn r) after = ⊥
 Derived m plan (Call.Load image) (Answer.Loaded r) after = Loads m.accepts image.now plan r after × Loaded m.accepts image.now plan r after
-
--- an answer to an admission tells these rows or this refusal
-abbrev pub Tells : Result (List Placed) RequestFault → Answer → Type 0
-Tells told (Answer.Admitted r) = told_rows r ≡ told
-Tells told (Answer.Withdrawn r) = ⊥
-Tells told (Answer.Loaded r) = ⊥
 
 -- a history from one plan to another: each call with its answer leads from a plan to the next
 pub data History {R : Type 0} (m : Meaning R) : Plan → List Call → List Answer → Plan → Type 0 where
@@ -43,10 +37,10 @@ pub data History {R : Type 0} (m : Meaning R) : Plan → List Call → List Answ
 
 -- the accepted reservations after one more call: from its arguments and whether it was refused, and never from the plan
 abbrev pub accepted_next : List Reservation → Call → Answer → List Reservation
-accepted_next accepted (Call.Admit k c d t) (Answer.Admitted (Ok rows)) = reserved k c d t ∷ accepted
-accepted_next accepted (Call.Admit k c d t) (Answer.Admitted (Err fault)) = accepted
-accepted_next accepted (Call.Admit k c d t) (Answer.Withdrawn r) = accepted
-accepted_next accepted (Call.Admit k c d t) (Answer.Loaded r) = accepted
+accepted_next accepted (Call.Admit w) (Answer.Admitted (Ok rows)) = reserved w.key w.budget w.deadline w.period ∷ accepted
+accepted_next accepted (Call.Admit w) (Answer.Admitted (Err fault)) = accepted
+accepted_next accepted (Call.Admit w) (Answer.Withdrawn r) = accepted
+accepted_next accepted (Call.Admit w) (Answer.Loaded r) = accepted
 accepted_next accepted (Call.Withdraw k) (Answer.Admitted r) = accepted
 accepted_next accepted (Call.Withdraw k) (Answer.Withdrawn (Ok keys)) = dropped k accepted
 accepted_next accepted (Call.Withdraw k) (Answer.Withdrawn (Err fault)) = accepted

@@ -28,21 +28,21 @@ use Rattle.promise.specs.History.{History, begins, goes_on, accepted_after}
 
 -- 'no place' means: on the plan before, every processor with a free row would stand above density one with the newcomer x whole on it
 abbrev pub NoPlace : Plan → Call → Answer → Type 0
-NoPlace plan (Call.Admit k c d t) (Answer.Admitted r) =
-    told r ≡ Err RequestFault.NoPlace → (x : Timing) → x.budget ≡ c → x.deadline ≡ d → x.period ≡ t →
+NoPlace plan (Call.Admit w) (Answer.Admitted r) =
+    told r ≡ Err RequestFault.NoPlace → (x : Timing) → x.budget ≡ w.budget → x.deadline ≡ w.deadline → x.period ≡ w.period →
     (p : ℕ) → On plan p → length (rows_at plan p) < 32 → scale < densities scale (timings (rows_at plan p) ++ (x ∷ []))
-NoPlace plan (Call.Admit k c d t) (Answer.Withdrawn r) = Unit {0}
-NoPlace plan (Call.Admit k c d t) (Answer.Loaded r) = Unit {0}
+NoPlace plan (Call.Admit w) (Answer.Withdrawn r) = Unit {0}
+NoPlace plan (Call.Admit w) (Answer.Loaded r) = Unit {0}
 NoPlace plan (Call.Withdraw k) answer = Unit {0}
 NoPlace plan (Call.Load image) answer = Unit {0}
 
 -- a reservation admitted whole has the numbers asked for, and stands on the processor that the placement rule puts first among those that can take it, on the plan before
 abbrev pub FirstInRank : {R : Type 0} → Meaning R → Plan → Call → Answer → Type 0
-FirstInRank m plan (Call.Admit k c d t) (Answer.Admitted r) =
-    (p : ℕ) (x : Timing) → told r ≡ Ok (placed k p Kind.Whole x ∷ []) →
-    ((x.budget ≡ c) × (x.deadline ≡ d) × (x.period ≡ t)) × FirstTaker m.before m.rank m.accepts plan [] x p
-FirstInRank m plan (Call.Admit k c d t) (Answer.Withdrawn r) = Unit {0}
-FirstInRank m plan (Call.Admit k c d t) (Answer.Loaded r) = Unit {0}
+FirstInRank m plan (Call.Admit w) (Answer.Admitted r) =
+    (p : ℕ) (x : Timing) → told r ≡ Ok (placed w.key p Kind.Whole x ∷ []) →
+    ((x.budget ≡ w.budget) × (x.deadline ≡ w.deadline) × (x.period ≡ w.period)) × FirstTaker m.before m.rank m.accepts plan [] x p
+FirstInRank m plan (Call.Admit w) (Answer.Withdrawn r) = Unit {0}
+FirstInRank m plan (Call.Admit w) (Answer.Loaded r) = Unit {0}
 FirstInRank m plan (Call.Withdraw k) answer = Unit {0}
 FirstInRank m plan (Call.Load image) answer = Unit {0}
 

@@ -27,7 +27,7 @@ use Rattle.promise.specs.Promise.{Promised}
 
 -- a call that asks for just this timing
 abbrev pub asks : ℕ → Timing → Call
-asks k x = Call.Admit k x.budget x.deadline x.period
+asks k x = Call.Admit (record { key = k; budget = x.budget; deadline = x.deadline; period = x.period })
 
 -- after any list of calls of which all is promised
 pub record Holds {R : Type 0} (m : Meaning R) (n : ℕ) (calls : List Call) (answers : List Answer) (last : Plan) : Type 0 where

@@ -2,16 +2,12 @@
 use board::admission::Admission;
 use board::gathered::Gathered;
 use model::fault::{NamingFault, RequestFault};
+use model::wanted::Wanted;
 use store::fault::BufferFault;
 
 #[derive(Clone, Copy)]
 pub enum Call<'a> {
-    Admit {
-        key: u32,
-        budget: u32,
-        deadline: u32,
-        period: u32,
-    },
+    Admit(Wanted),
     Withdraw {
         key: u32,
     },

@@ -1,8 +1,7 @@
 // Any list of calls from set-up on, answered one after the other, with all that is promised of the answers and the plan.
 ghost use Rattle.std.specs.Prelude.{◌≡◌};
 ghost use Rattle.board.specs.Plan.{plan};
-ghost use Rattle.board.specs.Admit.{admitted, after};
-ghost use Rattle.promise.specs.History.{Derived, Tells};
+ghost use Rattle.promise.specs.History.{Derived};
 ghost use Rattle.promise.specs.Promise.{meant, Begun, Ran};
 
 use crate::call::{Answer, Call};
@@ -60,28 +59,8 @@ pub fn make<J: SizingJudge, P: Placement>(board: &mut Board<J, P>, call: &Call) 
     ensures rule { board.new.rule ≡ board.old.rule }
 {
     match call {
-        Call::Admit {
-            key,
-            budget,
-            deadline,
-            period,
-        } => admit(board, *key, *budget, *deadline, *period),
+        Call::Admit(wanted) => Answer::Admitted(board.admit(*wanted)),
         Call::Withdraw { key } => Answer::Withdrawn(board.withdraw(*key)),
         Call::Load { image } => Answer::Loaded(load(board, image)),
     }
-}
-
-fn admit<J: SizingJudge, P: Placement>(
-    board: &mut Board<J, P>,
-    key: u32,
-    budget: u32,
-    deadline: u32,
-    period: u32,
-) -> Answer
-    ensures answer { Tells (admitted P.Rank.Rank.first (P.Placement.ranks board.old.rule) (J.Judge.accepts board.old.judge) (J.SizingJudge.allows board.old.judge) (plan board.old) key budget deadline period) result }
-    ensures after { plan board.new ≡ after (plan board.old) (admitted P.Rank.Rank.first (P.Placement.ranks board.old.rule) (J.Judge.accepts board.old.judge) (J.SizingJudge.allows board.old.judge) (plan board.old) key budget deadline period) }
-    ensures judge { board.new.judge ≡ board.old.judge }
-    ensures rule { board.new.rule ≡ board.old.rule }
-{
-    Answer::Admitted(board.admit(key, budget, deadline, period))
 }

@@ -5,21 +5,23 @@ use Rattle.board.specs.Plan.{plan}
 use Rattle.promise.specs.declared.call.Answer.{Answer}
 use Rattle.promise.specs.History.{Derived}
 use Rattle.promise.specs.Promise.{meant}
-use Rattle.promise.proofs.Histories.{admits_tells}
+use Rattle.board.specs.Admit.{told}
+use Rattle.promise.proofs.Admissions.{admits_told}
 use Rattle.promise.proofs.history.make.Goals as goal
 
 pub returns-in-Admit : goal.returns-in-Admit
 returns-in-Admit g c =
     let b = c.args.board.now in
-    let some : 1 ≤ length (plan b) = omega (arith, length-map (vec_items b.processors) rows_of, b.processors.ok.0, b.some) in
+    let some : 1 ≤ length (plan b) = omega (arith, length-map (vec_items b.plan.processors) rows_of, b.plan.processors.ok.0, b.plan.some) in
+    let w = c.in-Admit.wanted in
     let first = g.P.Rank.Rank.first in
     let ranks = g.P.Placement.ranks b.rule in
     let accepts = g.J.Judge.accepts b.judge in
     let allows = g.J.SizingJudge.allows b.judge in
     record {
-      derived = subst (λ call. Derived (meant first ranks accepts allows) (plan b) call c.admit.result (plan c.admit.new.board)) (sym c.in-Admit.is)
-          (admits_tells first ranks accepts allows (plan b) c.in-Admit.key g.met.P.Rank.Rank.chain g.met.P.Rank.Rank.total (g.met.J.SizingJudge.capped b.judge) some
-          c.in-Admit.budget c.in-Admit.deadline c.in-Admit.period c.admit.result (plan c.admit.new.board) c.admit.ensures.answer c.admit.ensures.after);
+      derived = subst (λ call. Derived (meant first ranks accepts allows) (plan b) call (Answer.Admitted c.admit.result) (plan c.admit.new.self)) (sym c.in-Admit.is)
+          (admits_told first ranks accepts allows (plan b) w.key g.met.P.Rank.Rank.chain g.met.P.Rank.Rank.total (g.met.J.SizingJudge.capped b.judge) some
+          w.budget w.deadline w.period (told c.admit.result) (plan c.admit.new.self) c.admit.ensures.answer c.admit.ensures.after);
       judge = c.admit.ensures.judge;
       rule = c.admit.ensures.rule;
     }

@@ -13,7 +13,7 @@ use Rattle.board.proofs.board.Board.withdraw.Goals as goal
 pub returns-then-not-stands : goal.returns-then-not-stands
 returns-then-not-stands g c =
     let b = c.args.self.now in let accepts = g.J.Judge.accepts b.judge in let key = c.args.key in
-    let same : c.in_ok-key.key ≡ key = search rules in
+    let same : c.in-Ok.key ≡ key = search rules in
     let out : stands key (plan b) ≡ false = ap (λ k. stands k (plan b)) (sym same) ∙ sym c.if-not-stands.ensures in
     let answer : Err NamingFault.Key ≡ (withdrawal accepts key (plan b)).0 = search rules in
     let after : plan b ≡ (withdrawal accepts key (plan b)).1 = search rules in
@@ -32,7 +32,7 @@ gather-keys-requires g c =
     omega (
       arith,
       ap length (c.as_slice.ensures ∙ c.holders-visited.ensures),
-      length-map (plan b) (has_key c.in_ok-key.key),
+      length-map (plan b) (has_key c.in-Ok.key),
       length-map (vec_items b.plan.processors) rows_of,
       c.remove.ensures.count,
     )
@@ -40,7 +40,7 @@ gather-keys-requires g c =
 pub returns : goal.returns
 returns g c =
     let b = c.args.self.now in let accepts = g.J.Judge.accepts b.judge in let key = c.args.key in
-    let same : c.in_ok-key.key ≡ key = search rules in
+    let same : c.in-Ok.key ≡ key = search rules in
     let here : stands key (plan b) ≡ true = ap (λ k. stands k (plan b)) (sym same) ∙ sym c.if-not-stands.ensures in
     let keys = held c.gather-keys.result in let end = lists c.gather-keys.new.self in
     let answer : Ok keys ≡ (withdrawal accepts key (plan b)).0 = search rules in
