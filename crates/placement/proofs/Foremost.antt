@@ -1,7 +1,7 @@
 -- The choice is first among the candidates, by the laws of the order alone. Assumes nothing.
-use Rattle.std.proofs.Common.{◌≡◌, ℕ, Bool, true, false, cond, ◌⊎◌, List, [], ◌∷◌, ◌++◌, ℤ, sym, refl, ap, ◌∙◌, subst, inl, inr, append_assoc, append-nil, arith}
+use Rattle.std.proofs.Common.{◌≡◌, ℕ, Bool, true, false, cond, ◌⊎◌, List, [], ◌∷◌, ◌++◌, ℤ, Option, Some, None, fold, sym, refl, ap, ◌∙◌, subst, inl, inr, append_assoc, append-nil, arith}
 use borrow.Author.Tests.{clash}
-use Rattle.std.specs.List.{AllByRecursion}
+use Rattle.std.specs.List.{AllByRecursion, reduce}
 use Rattle.std.proofs.ByRecursion.{All-append, All-push, All-weaker}
 use Rattle.placement.specs.declared.candidate.Candidate.{Candidate}
 use Rattle.placement.specs.First.{rank_of, better, best_of, choice, First, Chosen}
@@ -14,6 +14,17 @@ all_middle P (y ∷ xs) x ys h = all_middle P xs x ys h.1
 pub no_middle : {X : Type 0} (xs : List X) (x : X) (ys : List X) → [] ≡ xs ++ (x ∷ ys) → ⊥
 no_middle [] x ys e = let z : ◌≡◌ {A = ℕ} 0 1 = cc in omega arith
 no_middle (y ∷ xs) x ys e = let z : ◌≡◌ {A = ℕ} 0 1 = cc in omega arith
+
+-- the choice is the library's `reduce`
+best_fold : {R : Type 0} (first : R → R → Bool) (ranks : ℕ → ℤ → ℕ → R) (a : Candidate) (l : List Candidate) →
+    best_of first ranks a l ≡ fold (better first ranks) a l
+best_fold first ranks a [] = refl
+best_fold first ranks a (b ∷ l) = best_fold first ranks (better first ranks a b) l
+
+pub choice_reduce : {R : Type 0} (first : R → R → Bool) (ranks : ℕ → ℤ → ℕ → R) (l : List Candidate) →
+    choice first ranks l ≡ reduce (better first ranks) l
+choice_reduce first ranks [] = refl
+choice_reduce first ranks (a ∷ l) = ap Some (best_fold first ranks a l)
 
 module _ {R : Type 0} (first : R → R → Bool) (ranks : ℕ → ℤ → ℕ → R)
     (chain : (a b c : R) → first a b ≡ true → first b c ≡ true → first a c ≡ true)
@@ -84,6 +95,14 @@ module _ {R : Type 0} (first : R → R → Bool) (ranks : ℕ → ℤ → ℕ �
     agree c d (y ∷ b) a (z ∷ b') a' e s w t v =
         let tail : b ++ (c ∷ a) ≡ b' ++ (d ∷ a') = cc in agree c d b a b' a' tail s.1 w t.1 v
 
-    pub first_once : (l : List Candidate) (c d : Candidate) → First first ranks l c → First first ranks l d → c ≡ d
+    first_once : (l : List Candidate) (c d : Candidate) → First first ranks l c → First first ranks l d → c ≡ d
     first_once l c d f k =
         agree c d f.before f.after k.before k.after (sym f.stands ∙ k.stands) f.strictly f.weakly k.strictly k.weakly
+
+    same_chosen : (l : List Candidate) (o : Option Candidate) (d : Candidate) → Chosen first ranks l o → First first ranks l d → o ≡ Some d
+    same_chosen l None d none f = absurd (no_middle f.before d f.after (sym none ∙ f.stands))
+    same_chosen l (Some c) d this f = ap Some (first_once l c d this f)
+
+    -- whatever is first is what is chosen
+    pub chosen_once : (l : List Candidate) (d : Candidate) → First first ranks l d → choice first ranks l ≡ Some d
+    chosen_once l d f = same_chosen l (choice first ranks l) d (chosen_first l) f

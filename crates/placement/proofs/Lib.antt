@@ -1,1 +1,2 @@
 pub mod Foremost
+pub mod Orders

@@ -2,13 +2,14 @@
 ghost use Rattle.std.specs.Prelude.{int_lt};
 ghost use Rattle.std.proofs.Common.{rules};
 
+use crate::candidate::Candidate;
 use crate::rank::Rank;
 use crate::rule::Placement;
 
 #[derive(Clone, Copy)]
 pub struct Best;
 
-// The smaller number comes first.
+// The smaller number comes first. Not once for every `Ord`: its laws leave equal ranks two, and `total` wants them the same.
 impl Rank for i32 {
     ghost first = { int_lt };
 
@@ -28,7 +29,7 @@ impl Placement for Best {
 
     ghost ranks = { λ _ processor spare rows. spare };
 
-    fn rank(&self, _processor: u8, spare: i32, _rows: u8) -> i32 {
-        spare
+    fn rank(&self, candidate: &Candidate) -> i32 {
+        candidate.spare
     }
 }

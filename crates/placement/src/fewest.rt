@@ -2,9 +2,11 @@
 ghost use Rattle.placement.specs.Ranks.{lighter};
 ghost use Rattle.std.proofs.Common.{rules};
 
+use crate::candidate::Candidate;
 use crate::load::Load;
 use crate::rank::Rank;
 use crate::rule::Placement;
+use std::cmp::Reverse;
 
 #[derive(Clone, Copy)]
 pub struct Fewest;
@@ -20,7 +22,7 @@ impl Rank for Load {
     ghost total = { Prim.search rules };
 
     fn before(&self, other: &Load) -> bool {
-        self.rows < other.rows || self.rows == other.rows && self.spare > other.spare
+        (self.rows, Reverse(self.spare)) < (other.rows, Reverse(other.spare))
     }
 }
 
@@ -29,7 +31,10 @@ impl Placement for Fewest {
 
     ghost ranks = { λ _ processor spare rows. record { rows = rows; spare = spare } };
 
-    fn rank(&self, _processor: u8, spare: i32, rows: u8) -> Load {
-        Load { rows, spare }
+    fn rank(&self, candidate: &Candidate) -> Load {
+        Load {
+            rows: candidate.rows,
+            spare: candidate.spare,
+        }
     }
 }

@@ -4,6 +4,7 @@ ghost use Rattle.placement.specs.Order.{listed};
 ghost use Rattle.placement.specs.Ranks.{position};
 ghost use Rattle.std.proofs.Common.{rules};
 
+use crate::candidate::Candidate;
 use crate::order::Order;
 use crate::rank::Rank;
 use crate::rule::Placement;
@@ -28,7 +29,7 @@ impl Listed {
     }
 }
 
-// The earlier place comes first.
+// The earlier place comes first. As for `i32`, and not once for every `Ord`, whose equal values need not be the same.
 impl Rank for u8 {
     ghost first = { nat_lt };
 
@@ -48,7 +49,7 @@ impl Placement for Listed {
 
     ghost ranks = { λ rule processor spare rows. position processor rule.order.processors };
 
-    fn rank(&self, processor: u8, _spare: i32, _rows: u8) -> u8 {
-        self.order.position(processor)
+    fn rank(&self, candidate: &Candidate) -> u8 {
+        self.order.position(candidate.processor)
     }
 }

@@ -20,36 +20,21 @@ impl Order {
     fn holds_once_each(&self, last: u8) -> bool
         ensures { result ≡ once_each last self.now.processors }
     {
-        for k in 0..last {
-            if self.times(k + 1) != 1 {
-                return false;
-            }
-        }
-        true
+        (1..=last).all(|processor| self.times(processor) == 1)
     }
 
     // How often a processor stands in it.
-    fn times(&self, processor: u8) -> u8
+    fn times(&self, processor: u8) -> usize
         ensures { result ≡ times processor self.now.processors }
     {
-        let mut count = 0u8;
-        for x in &self.processors {
-            if *x == processor {
-                count += 1;
-            }
-        }
-        count
+        self.processors.iter().filter(|x| **x == processor).count()
     }
 
     // How many processors stand before this one.
     pub fn position(&self, processor: u8) -> u8
         ensures { result ≡ position processor self.now.processors }
     {
-        for i in 0..8u8 {
-            if self.processors[i as usize] == processor {
-                return i;
-            }
-        }
-        8
+        let before = self.processors.iter().position(|x| *x == processor);
+        before.unwrap_or(8) as u8
     }
 }

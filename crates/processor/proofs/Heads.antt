@@ -1,8 +1,8 @@
 -- The candidate is what the rules say, and nothing else is. Assumes nothing.
-use Rattle.std.proofs.Common.{◌≡◌, ℕ, Bool, true, false, cond, ◌&&◌, ◌||◌, eqb, ltb, List, [], ◌∷◌, ◌++◌, Some, None, Option, sym, refl, ap, ◌∙◌, subst, append_assoc, append-nil, arith}
+use Rattle.std.proofs.Common.{◌≡◌, ℕ, Bool, true, false, cond, ◌&&◌, ◌||◌, eqb, ltb, List, [], ◌∷◌, ◌++◌, Some, None, Option, fold, sym, refl, ap, ◌∙◌, subst, append_assoc, append-nil, arith}
 use Rattle.model.specs.Row.{is_head, is_tail}
 use borrow.Author.Tests.{clash}
-use Rattle.std.specs.List.{AllByRecursion}
+use Rattle.std.specs.List.{AllByRecursion, reduce}
 use Rattle.std.proofs.ByRecursion.{All-append, All-push, All-weaker}
 use Rattle.std.proofs.lemmas.Bool.Decides.{nat_tests}
 use Rattle.model.specs.Scale.{scale}
@@ -79,6 +79,24 @@ held_all pre (r ∷ rows) h k =
       | true ↦ rw append_assoc at (held_all (pre ++ (r ∷ [])) rows (over h r) (held_more pre h r k))
       | false ↦ held_all pre rows h k
     ]
+
+-- the heaviest head is the library's `reduce`, of the heads
+abbrev pub heavier_of : Row → Row → Row
+heavier_of held row = cond (heavier row held) row held
+
+heaviest_fold : (a : Row) (rows : List Row) → heaviest (Some a) rows ≡ Some (fold heavier_of a (heads rows))
+heaviest_fold a [] = refl
+heaviest_fold a (r ∷ rows) =
+    elim (is_head r.kind) as (λ v. heaviest (cond v (over (Some a) r) (Some a)) rows ≡ Some (fold heavier_of a (cond v (r ∷ heads rows) (heads rows)))) [
+      | true ↦ ap (λ h. heaviest h rows) (over_is a r) ∙ heaviest_fold (heavier_of a r) rows
+      | false ↦ heaviest_fold a rows
+    ]
+
+pub heaviest_reduce : (rows : List Row) → heaviest None rows ≡ reduce heavier_of (heads rows)
+heaviest_reduce [] = refl
+heaviest_reduce (r ∷ rows) =
+    elim (is_head r.kind) as (λ v. heaviest (cond v (over None r) None) rows ≡ reduce heavier_of (cond v (r ∷ heads rows) (heads rows)))
+    [ true ↦ heaviest_fold r rows | false ↦ heaviest_reduce rows ]
 
 -- of two heaviest of one list neither stands earlier
 beaten : (c d y : Row) (after mid end : List Row) → c ∷ after ≡ y ∷ (mid ++ (d ∷ end)) → AllByRecursion (λ x. heavier x c ≡ false) after → heavier d y ≡ true → ⊥

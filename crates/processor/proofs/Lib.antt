@@ -3,3 +3,5 @@ pub mod Places
 pub mod Steps
 pub mod Gathering
 pub mod Heads
+pub mod Counts
+pub mod Collecting

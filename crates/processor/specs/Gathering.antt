@@ -1,5 +1,5 @@
 -- What a withdrawal asks of one processor's rows. Assumes nothing.
-use Rattle.std.specs.Prelude.{ℕ, ◌+◌, Bool, cond, not, ◌&&◌, ◌||◌, List, [], ◌∷◌, Some, None, filter, Option, ◌==◌, nat_lt}
+use Rattle.std.specs.Prelude.{ℕ, ◌+◌, Bool, cond, not, ◌&&◌, ◌||◌, List, [], ◌∷◌, Some, None, filter, find, Option, ◌==◌, nat_lt}
 use Rattle.model.specs.Row.{is_tail, is_head}
 use Rattle.model.specs.Scale.{scale}
 use Rattle.model.specs.Share.{share}
@@ -16,8 +16,7 @@ others key = filter (other key)
 
 -- the first tail among these rows
 abbrev pub tail_among : List Row → Option Row
-tail_among [] = None
-tail_among (row ∷ rows) = cond (is_tail row.kind) (Some row) (tail_among rows)
+tail_among = find (λ row. is_tail row.kind)
 
 -- a row comes before another as a candidate: a larger share, or the same and a lower key
 abbrev pub heavier : Row → Row → Bool
@@ -51,4 +50,4 @@ if_of f key row = cond (is_of key row) (f row) 0
 -- the sum of a measure over a reservation's rows
 abbrev pub sum_on : (Row → ℕ) → ℕ → List Row → ℕ
 sum_on f key [] = 0
-sum_on f key (row ∷ rows) = cond (row.key == key) (f row) 0 + sum_on f key rows
+sum_on f key (row ∷ rows) = if_of f key row + sum_on f key rows

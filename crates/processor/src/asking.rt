@@ -13,8 +13,16 @@ use model::judge::{Judge, SizingJudge};
 use model::share::SCALE;
 use model::timing::Timing;
 use placement::candidate::Candidate;
+use std::iter::once;
 
 pub const MOST_ROWS: usize = 32;
+
+// A timing for the places of a list that are not in use.
+pub const UNUSED: Timing = Timing {
+    budget: 1,
+    deadline: 1,
+    period: 1,
+};
 
 // A list to put before a judge: a processor's rows and at most one more.
 pub type Timings = Few<Timing, 33>;
@@ -24,11 +32,7 @@ impl Processor {
     pub fn takes<J: Judge>(&self, judge: &J, timing: Timing) -> bool
         ensures { result ≡ takes (J.Judge.accepts judge.now) (rows_of self.now) timing }
     {
-        if self.rows.len() >= MOST_ROWS {
-            return false;
-        }
-        let list = self.asked(timing);
-        judge.judge(list.as_slice())
+        self.has_room() && judge.judge(self.asked(timing).as_slice())
     }
 
     // The longest tail that it can take: none without a free row, or beside another tail.
@@ -36,14 +40,11 @@ impl Processor {
         ensures value { result ≡ offers (J.SizingJudge.allows judge.now) (rows_of self.now) period cap }
         ensures bound { result ≤ cap }
     {
-        if self.rows.len() >= MOST_ROWS {
-            return 0;
+        if self.has_room() && !self.has_tail() {
+            judge.allowance(self.timings().as_slice(), period, cap)
+        } else {
+            0
         }
-        if self.has_tail() {
-            return 0;
-        }
-        let list = self.timings();
-        judge.allowance(list.as_slice(), period, cap)
     }
 
     // What is left of the processor: below zero where rounding up has carried the shares past the scale.
@@ -69,41 +70,23 @@ impl Processor {
         ensures value { result ≡ shares scale (timings (rows_of self.now)) }
         ensures bound { result ≤ 32 * scale }
     {
-        let mut sum: u64 = 0;
-        for row in self.rows.as_slice() {
-            sum += row.timing.share();
-        }
-        sum
+        self.rows.iter().map(|row| row.timing.share()).sum()
     }
 
     // The timings of its rows with this one at the end.
     fn asked(&self, timing: Timing) -> Timings
         ensures { held result ≡ timings (rows_of self.now) ++ (timing ∷ []) }
     {
-        let mut list = self.timings();
-        list.push(timing);
-        list
+        Few::collected(
+            timing,
+            self.rows.iter().map(|row| row.timing).chain(once(timing)),
+        )
     }
 
     // The timings of its rows.
     pub fn timings(&self) -> Timings
         ensures { held result ≡ timings (rows_of self.now) }
     {
-        let mut list = question();
-        for row in self.rows.as_slice() {
-            list.push(row.timing);
-        }
-        list
+        Few::collected(UNUSED, self.rows.iter().map(|row| row.timing))
     }
-}
-
-// No timings yet.
-pub fn question() -> Timings
-    ensures { held result ≡ [] }
-{
-    Few::new(Timing {
-        budget: 1,
-        deadline: 1,
-        period: 1,
-    })
 }

@@ -11,19 +11,13 @@ impl Processor {
     pub fn look(&self, position: u32) -> Result<Row, NamingFault>
         ensures { result ≡ named (counted (rows_of self.now) position) }
     {
-        match self.row_at(position) {
-            Some(row) => Ok(row),
-            None => Err(NamingFault::Row),
-        }
+        self.row_at(position).ok_or(NamingFault::Row)
     }
 
     fn row_at(&self, position: u32) -> Option<Row>
         ensures { result ≡ counted (rows_of self.now) position }
     {
-        let count = self.rows.len();
-        if position < 1 || position as usize > count {
-            return None;
-        }
-        Some(self.rows[position as usize - 1])
+        let index = position.checked_sub(1)?;
+        self.rows.get(index as usize).copied()
     }
 }

@@ -1,5 +1,7 @@
-// Short lists: empty, one more at the end, all of it.
-ghost use Rattle.std.specs.Prelude.{◌≡◌, ◌<◌, [], ◌∷◌, ◌++◌, length, nat_lt};
+// Short lists: empty, one more at the end, all that an iterator gives, all of it as a slice.
+ghost use Rattle.std.specs.Prelude.{◌≡◌, ◌<◌, [], ◌∷◌, ◌++◌, length, take, nat_lt};
+ghost use Rattle.std.specs.Iterator.{IsFinite};
+ghost use Rattle.std.specs.Iterator.Runs.{WholeRun};
 ghost use Rattle.processor.specs.Few.{held, pushed};
 
 use crate::few::Few;
@@ -13,6 +15,19 @@ impl<T: Copy, const N: usize> Few<T, N> {
             items: [filler; N],
             len: 0,
         }
+    }
+
+    // The items of an iterator, as many as there is room for.
+    pub fn collected<I: Iterator<Item = T> + Drop>(filler: T, items: I) -> Few<T, N>
+        requires can { I.can_next items }
+        requires finite { IsFinite (I.remaining items) }
+        ensures { WholeRun I.next_gives items (λ p. held result ≡ take N p.items) }
+    {
+        let mut list = Few::new(filler);
+        for x in items {
+            list.push(x);
+        }
+        list
     }
 
     // One more at the end, if there is room: whether there was.
@@ -32,7 +47,6 @@ impl<T: Copy, const N: usize> Few<T, N> {
     pub fn as_slice(&self) -> &[T]
         ensures { result.now ≡ held self.now }
     {
-        let all = &self.items[..];
-        &all[0..self.len]
+        &self.items[..self.len]
     }
 }

@@ -1,24 +1,24 @@
-use Rattle.std.proofs.Common.{◌≡◌, ◌+◌, drop, ap, ◌∙◌, arith}
-use Rattle.std.proofs.lemmas.List.{at_drop_all}
+use Rattle.std.proofs.Common.{rules, tests, ◌≡◌, sum_by, sym, ◌∙◌, arith}
+use Rattle.std.proofs.lemmas.Iterator.{YieldsList-from_slice}
+use Rattle.std.proofs.lemmas.Iterator.Consumers.{YieldsList-at}
+use Rattle.std.proofs.lemmas.Iterator.Adapters.{fits_from_length, at_most_from_yields_List}
 use Rattle.model.specs.Scale.{scale}
 use Rattle.model.specs.Share.{share, shares}
 use Rattle.model.specs.Row.{timings}
 use Rattle.model.proofs.Bounds.{share_le}
-use Rattle.processor.proofs.Steps.{step}
+use Rattle.processor.specs.Rows.{rows_of}
+use Rattle.processor.proofs.Counts.{shares_sum, shares_few}
 use Rattle.processor.proofs.rows.Processor.shares.Goals as goal
 
-pub loop-row-preserved : goal.loop-row-preserved
-loop-row-preserved c =
-    let rows = c.as_slice-row-items.result.now in
-    let s : shares scale (timings (drop c.loop-row.row-index rows))
-    ≡ share scale c.row-item.result.timing + shares scale (timings (drop (c.loop-row.row-index + 1) rows))
-    = step (λ l. shares scale (timings l)) rows c.loop-row.row-index c.row-item.result c.loop-row-test.true c.row-item.is in
-    (omega (arith, share_le scale c.row-item.result.timing), omega (arith, share_le scale c.row-item.result.timing))
+pub sum-requires-clause-fits : goal.sum-requires-clause-fits
+sum-requires-clause-fits c =
+    fits_from_length _ _ 32 _ (at_most_from_yields_List (YieldsList-at c.map.ensures.source (YieldsList-from_slice (rows_of c.args.self.now) cc)) (omega arith))
+    c.map.ensures.closure (omega arith)
+    (λ x r q k. let is : r ≡ share scale x.now.timing = search (rules, tests) in (search (rules, tests), omega (arith, is, share_le scale x.now.timing)))
 
 pub returns : goal.returns
 returns c =
-    let rows = c.as_slice-row-items.result.now in
-    let none : shares scale (timings (drop c.loop-row.row-index rows)) ≡ 0
-    = at_drop_all (λ l. shares scale (timings l)) rows c.loop-row.row-index c.loop-row-test.false in
-    let all : c.loop-row.sum ≡ shares scale (timings rows) = omega arith in
-    record { value = all ∙ ap (λ l. shares scale (timings l)) c.as_slice-row-items.ensures.value; bound = omega arith }
+    let rows = rows_of c.args.self.now in
+    let chained : c.sum.result ≡ sum_by (λ row. share scale row.timing) rows = search rules in
+    let value : c.sum.result ≡ shares scale (timings rows) = chained ∙ sym (shares_sum rows) in
+    record { value = value; bound = omega (arith, value, shares_few rows) }

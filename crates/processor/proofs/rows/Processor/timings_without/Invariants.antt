@@ -1,8 +1,0 @@
-use Rattle.std.proofs.Common.{◌≡◌, take}
-use Rattle.model.specs.Row.{timings}
-use Rattle.processor.specs.Few.{held}
-use Rattle.processor.specs.Gathering.{others}
-use Rattle.processor.proofs.rows.Processor.timings_without.Given as goal
-
-abbrev pub invariant-loop-row : goal.invariant-loop-row
-invariant-loop-row l = held l.list ≡ timings (others l.key (take l.row-index l.row-items))
