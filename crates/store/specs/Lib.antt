@@ -8,12 +8,17 @@ pub mod InPlace
 pub mod Record
 pub mod Rowed
 pub mod Header
+pub mod Read
 pub mod Chains
+pub mod Followed
 pub mod Records
+pub mod Reading
 pub mod Keys
+pub mod Gathered
 pub mod Answers
 pub mod Judged
 pub mod Entries
+pub mod Unpacked
 pub mod Load
 pub mod Loading
 pub mod Theorems
