@@ -3,6 +3,7 @@ pub mod Fault
 pub mod Numbers
 pub mod Image
 pub mod Buffer
+pub mod Written
 pub mod Save
 pub mod InPlace
 pub mod Record

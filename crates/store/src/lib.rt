@@ -17,3 +17,5 @@ mod refill;
 pub mod save;
 pub mod theorems;
 mod unpack;
+mod writer;
+mod writing;
