@@ -1,16 +1,9 @@
 -- One write into a buffer after another. Assumes nothing.
-use Rattle.std.proofs.Common.{◌≡◌, ℕ, ◌+◌, ◌-◌, ◌≤◌, List, [], ◌++◌, length, take, drop, sym, ap, ◌∙◌, append_assoc, add-zero, arith, length-append}
+use Rattle.std.proofs.Common.{◌≡◌, ℕ, ◌+◌, ◌-◌, ◌≤◌, List, [], ◌++◌, length, take, drop, sym, ap, ◌∙◌, append_assoc, add-zero, arith, length-append, length-drop, subst}
 use Rattle.std.proofs.lemmas.List.{take_at, drop_at, drop-drop, take-append-drop, length-take-le}
-use borrow.Rule.Slice.PartMut.{put_mid}
+use Rattle.store.specs.declared.writer.Writer.{Writer}
 use Rattle.store.specs.Buffer.{overwritten}
-
--- a write through `copy_from_slice`
-pub put_is :
-    (buffer : List ℕ) (at k : ℕ) (bytes now : List ℕ) → now ≡ bytes → k ≡ length bytes →
-    put_mid at (at + k - at) buffer now ≡ overwritten buffer at bytes
-put_is buffer at k bytes now same len =
-    let e : at + k - at ≡ length bytes = omega arith in
-    rw (e, same, drop-drop (length bytes) at buffer)
+use Rattle.store.specs.Written.{Wrote}
 
 pub overwritten_none : (buffer : List ℕ) (at : ℕ) → overwritten buffer at [] ≡ buffer
 overwritten_none buffer at = rw (add-zero at) (take-append-drop at buffer)
@@ -33,16 +26,41 @@ overwritten_more buffer at a b next is within =
     ∙ (drop-drop (length b) (at + length a) buffer ∙ ap (λ k. drop k buffer) sums))) in
     rw (t, d) (simp append_assoc)
 
+pub length_overwritten :
+    (buffer : List ℕ) (at : ℕ) (bytes : List ℕ) → at + length bytes ≤ length buffer → length (overwritten buffer at bytes) ≡ length buffer
+length_overwritten buffer at bytes fits =
+    omega (
+      arith,
+      length-append (take at buffer) (bytes ++ drop (at + length bytes) buffer),
+      length-append bytes (drop (at + length bytes) buffer),
+      length-take-le at buffer (omega arith),
+      length-drop (at + length bytes) buffer,
+    )
+
+-- two writes, one after the other
+pub wrote_both :
+    (a b c : Writer) (x y : List ℕ) → Wrote a b x → Wrote b c y → a.at ≤ length a.buffer.now → Wrote a c (x ++ y)
+wrote_both a b c x y p q within =
+    record {
+      buffer =
+          q.buffer ∙ (ap (λ s. overwritten s b.at y) p.buffer ∙ overwritten_more a.buffer.now a.at x y b.at p.at within);
+      at = omega (arith, p.at, q.at, length-append x y);
+    }
+
+wrote_none : (a : Writer) → Wrote a a []
+wrote_none a = record { buffer = sym (overwritten_none a.buffer.now a.at); at = sym (add-zero a.at) }
+
+-- whatever writes the rest from here on has written all from the start on
+abbrev pub Left : Writer → Writer → List ℕ → List ℕ → Type 0
+Left start here rest all = (w : Writer) → Wrote here w rest → Wrote start w all
+
 -- a turn of a loop that writes
-pub write_more :
-    (buffer after : List ℕ) (at next : ℕ) (a b all goal : List ℕ) → after ≡ overwritten buffer at a → next ≡ at + length a →
-    at ≤ length buffer → all ≡ a ++ b → overwritten buffer at all ≡ goal → overwritten after next b ≡ goal
-write_more buffer after at next a b all goal written step within split so_far =
-    ap (λ s. overwritten s next b) written ∙ (overwritten_more buffer at a b next step within
-    ∙ (ap (overwritten buffer at) (sym split) ∙ so_far))
+pub left_more :
+    (start here next : Writer) (bytes more rest all : List ℕ) → Wrote here next bytes → here.at ≤ length here.buffer.now → rest ≡ bytes ++ more →
+    Left start here rest all → Left start next more all
+left_more start here next bytes more rest all wrote within split left =
+    λ w h. left w (subst (Wrote here w) (sym split) (wrote_both here next w bytes more wrote h within))
 
 -- its end
-pub write_all :
-    (buffer : List ℕ) (at : ℕ) (rest goal : List ℕ) → rest ≡ [] → overwritten buffer at rest ≡ goal → buffer ≡ goal
-write_all buffer at rest goal none so_far =
-    sym (overwritten_none buffer at) ∙ (ap (overwritten buffer at) (sym none) ∙ so_far)
+pub left_none : (start here : Writer) (rest all : List ℕ) → rest ≡ [] → Left start here rest all → Wrote start here all
+left_none start here rest all none left = left here (subst (Wrote here here) (sym none) (wrote_none here))

@@ -1,15 +1,15 @@
 -- Records read by number, one on, and rows picked along a chain. Assumes nothing.
-use Rattle.std.proofs.Common.{◌≡◌, ℕ, suc, ◌+◌, ◌-◌, ◌<◌, ◌≤◌, true, false, ◌≢◌, List, [], ◌∷◌, ◌++◌, map, length, get_or, take, set, Some, None, sym, ap, ◌∙◌, subst, arith, length-take, get_or-set_other, get_or-set_same, below_more}
+use Rattle.std.proofs.Common.{◌≡◌, ℕ, suc, ◌+◌, ◌-◌, ◌<◌, ◌≤◌, true, false, List, [], ◌∷◌, ◌++◌, map, length, get_or, take, Some, None, sym, refl, ap, ◌∙◌, subst, ⊎_elim, arith, length-take}
 use Rattle.std.specs.List.{AllByRecursion}
-use Rattle.std.proofs.lemmas.List.{map_more, map_push, get_or_read, take_more_set}
+use Rattle.std.proofs.lemmas.List.{map_more, map_push, get_or_read, get_or_append_left, get_or_push, get_or-map, length-map}
+use Rattle.std.proofs.lemmas.Bool.{cases_lt}
 use Rattle.std.proofs.ByRecursion.{All-get_or}
 use Rattle.model.specs.declared.row.Row.{Row}
+use Rattle.processor.specs.declared.few.Few.{Few}
+use Rattle.processor.specs.Few.{held}
 use Rattle.store.specs.declared.entry.Entry.{Entry}
 use Rattle.store.specs.declared.fault.BufferRule.{BufferRule}
-use Rattle.store.specs.declared.chain.Chain.{Chain}
-use Rattle.store.specs.declared.rows.Rows.{Rows}
 use Rattle.store.specs.Fault.{fault}
-use Rattle.store.specs.InPlace.{numbers_of, rows_in}
 use Rattle.store.specs.Record.{entry, bad_entry}
 use Rattle.store.specs.Records.{record_fault, picked, Numbered}
 
@@ -26,29 +26,33 @@ unfolding record_fault
 record_stop says left number bad = rw bad
 
 pub record_more :
-    (says : ℕ → Entry) (r i : ℕ) → i < r → bad_entry (says (i + 1)) ≡ false →
-    record_fault says (r - i) (i + 1) ≡ record_fault says (r - (i + 1)) (i + 1 + 1)
-record_more says r i h good =
-    let e : r - i ≡ suc (r - (i + 1)) = omega arith in rw e (record_suc says (r - (i + 1)) (i + 1) good)
+    (says : ℕ → Entry) (r number : ℕ) → number ≤ r → bad_entry (says number) ≡ false →
+    record_fault says (r + 1 - number) number ≡ record_fault says (r + 1 - (number + 1)) (number + 1)
+record_more says r number h good =
+    let e : r + 1 - number ≡ suc (r + 1 - (number + 1)) = omega arith in rw e (record_suc says (r + 1 - (number + 1)) number good)
 
 pub record_refused :
-    (says : ℕ → Entry) (r i : ℕ) → i < r → bad_entry (says (i + 1)) ≡ true →
-    record_fault says (r - i) (i + 1) ≡ Some (fault BufferRule.Record (i + 1))
-record_refused says r i h bad =
-    let e : r - i ≡ suc (r - (i + 1)) = omega arith in rw e (record_stop says (r - (i + 1)) (i + 1) bad)
+    (says : ℕ → Entry) (r number : ℕ) → number ≤ r → bad_entry (says number) ≡ true →
+    record_fault says (r + 1 - number) number ≡ Some (fault BufferRule.Record number)
+record_refused says r number h bad =
+    let e : r + 1 - number ≡ suc (r - number) = omega arith in rw e (record_stop says (r - number) number bad)
 
 pub record_all : (says : ℕ → Entry) (left number : ℕ) → left ≡ 0 → record_fault says left number ≡ None
 unfolding record_fault
 record_all says left number e = rw e
 
+-- one more row that was read
 pub read_more :
-    (says : ℕ → Entry) (rows : List Row) (i : ℕ) (row : Row) → i < length rows → entry row ≡ says (i + 1) →
-    ((k : ℕ) (d : Row) → k < i → entry (get_or rows k d) ≡ says (k + 1)) →
-    (k : ℕ) (d : Row) → k < i + 1 → entry (get_or (set rows i row) k d) ≡ says (k + 1)
-read_more says rows i row within here before k d h =
-    below_more (λ k. entry (get_or (set rows i row) k d) ≡ says (k + 1)) i
-    (λ k h. let ne : k ≢ i = omega arith in ap entry (get_or-set_other rows i k row d ne) ∙ before k d h)
-    (ap entry (get_or-set_same rows i row d within) ∙ here) k h
+    (says : ℕ → Entry) (rows after : List Row) (row : Row) → after ≡ rows ++ (row ∷ []) → entry row ≡ says (length rows + 1) →
+    ((k : ℕ) (d : Row) → k < length rows → entry (get_or rows k d) ≡ says (k + 1)) →
+    (k : ℕ) (d : Row) → k < length rows + 1 → entry (get_or after k d) ≡ says (k + 1)
+read_more says rows after row pushed here before k d h =
+    rw pushed
+    (⊎_elim
+    (λ (less : k < length rows). rw (get_or_append_left rows (row ∷ []) d k less) (before k d less))
+    (λ (last : length rows ≤ k).
+    let same : k ≡ length rows = omega arith in rw (same, get_or_push rows row d (length rows) refl) here)
+    (cases_lt k (length rows)))
 
 -- the number at a place of a chain
 pub numbered_at : (r : ℕ) (numbers : List ℕ) (i : ℕ) → i < length numbers → Numbered r numbers → (1 ≤ get_or numbers i 0) × (get_or numbers i 0 ≤ r)
@@ -64,20 +68,21 @@ pick_more rows numbers i row before after h within is pushed so_far d =
     ∙ sym (map_more (λ n. get_or rows (n - 1) d) numbers i 0 h)))
 
 pub picks_more :
-    (rows : List Row) (chains : List Chain) (i : ℕ) (chain : Chain) (array : List Rows) (new : Rows) → i < length chains →
-    i < length array → chain ≡ get_or chains i chain → ((d : Row) → rows_in new ≡ picked rows d (numbers_of chain)) →
-    ((d : Row) → map rows_in (take i array) ≡ map (λ c. picked rows d (numbers_of c)) (take i chains)) → (d : Row) →
-    map rows_in (take (i + 1) (set array i new)) ≡ map (λ c. picked rows d (numbers_of c)) (take (i + 1) chains)
-picks_more rows chains i chain array new h within is here so_far d =
-    rw (take_more_set array i new within, map_push rows_in (take i array) new, map_more (λ c. picked rows d (numbers_of c)) chains i chain h, so_far d, here d, ← is)
+    (rows : List Row) (chains : List (Few ℕ 32)) (i : ℕ) (chain : Few ℕ 32) (before after : List (List Row)) (new : List Row) → i < length chains →
+    chain ≡ get_or chains i chain → ((d : Row) → new ≡ picked rows d (held chain)) → after ≡ before ++ (new ∷ []) →
+    ((d : Row) → before ≡ map (picked rows d) (map held (take i chains))) → (d : Row) →
+    after ≡ map (picked rows d) (map held (take (i + 1) chains))
+picks_more rows chains i chain before after new h is here pushed so_far d =
+    rw (pushed, so_far d, here d, map_more held chains i chain h, ← is, map_push (picked rows d) (map held (take i chains)) (held chain)) refl
 
-pub length_numbers : (c : Chain) → length (numbers_of c) ≤ 32
-length_numbers c = omega (arith, length-take c.count c.numbers)
+pub length_held : {X : Type 0} {n : ℕ} (l : Few X n) → length (held l) ≤ n
+length_held l = omega (arith, length-take l.len l.items)
 
 -- the numbers of a chain that was read, through a slice of them
 pub numbered_chain :
-    (chains : List Chain) (i : ℕ) (chain : Chain) (numbers : List ℕ) → i < length chains → chain ≡ get_or chains i chain →
-    numbers ≡ numbers_of chain → AllByRecursion (λ c. Numbered 256 (numbers_of c)) chains → (length numbers ≤ 32) × Numbered 256 numbers
-numbered_chain chains i chain numbers h is same all =
-    let here : Numbered 256 (numbers_of (get_or chains i chain)) = All-get_or (λ c. Numbered 256 (numbers_of c)) chains i chain h all in
-    (rw same (length_numbers chain), rw same (subst (λ c. Numbered 256 (numbers_of c)) (sym is) here))
+    (r : ℕ) (chains : List (Few ℕ 32)) (i : ℕ) (chain : Few ℕ 32) (numbers : List ℕ) → i < length chains → chain ≡ get_or chains i chain →
+    numbers ≡ held chain → AllByRecursion (Numbered r) (map held chains) → (length numbers ≤ 32) × Numbered r numbers
+numbered_chain r chains i chain numbers h is same all =
+    let there : i < length (map held chains) = omega (arith, length-map chains held) in
+    let here = All-get_or (Numbered r) (map held chains) i (held chain) there all in
+    (rw same (length_held chain), rw same (subst (Numbered r) (get_or-map held chains i chain (held chain) h ∙ ap held (sym is)) here))

@@ -3,9 +3,9 @@ use Rattle.std.proofs.Common.{◌≡◌, ℕ, ◌+◌, ◌-◌, ◌*◌, ◌<◌
 use Rattle.model.specs.declared.row.Row.{Row}
 use Rattle.processor.specs.declared.rows.Processor.{Processor}
 use Rattle.processor.specs.Rows.{rows_of}
-use Rattle.store.specs.Buffer.{overwritten}
 use Rattle.store.proofs.Drops.{seen_more, left_more}
-use Rattle.store.proofs.Buffers.{write_more}
+use Rattle.std.specs.List.{sum_by}
+use Rattle.std.proofs.lemmas.List.Recursion.{is_sum_by}
 use Rattle.store.specs.Numbers.{two_bytes}
 use Rattle.store.specs.Image.{record_bytes, first, chain_bytes, records_bytes, heads_bytes, row_count}
 
@@ -29,53 +29,33 @@ length_heads n (rows ∷ plan) =
     length-append (two_bytes (first n (length rows))) (heads_bytes (n + length rows) plan) ∙ omega arith
 
 pub chain_more :
-    (rows : List Row) (i : ℕ) (row : Row) (n : ℕ) → i < length rows → row ≡ get_or rows i row →
-    chain_bytes n (drop i rows)
-    ≡ record_bytes (first (n + 1) (length rows - i - 1)) row ++ chain_bytes (n + 1) (drop (i + 1) rows)
-chain_more rows i row n h is =
+    (rows : List Row) (i : ℕ) (row : Row) (n next : ℕ) (bytes : List ℕ) → i < length rows → row ≡ get_or rows i row →
+    bytes ≡ record_bytes next row → next ≡ first (n + 1) (length rows - i - 1) →
+    chain_bytes n (drop i rows) ≡ bytes ++ chain_bytes (n + 1) (drop (i + 1) rows)
+chain_more rows i row n next bytes h is is-bytes is-next =
     let left : length (drop (i + 1) rows) ≡ length rows - i - 1 = omega (arith, length-drop (i + 1) rows) in
-    left_more (chain_bytes n) rows i row h is
-    ∙ ap (λ k. record_bytes (first (n + 1) k) row ++ chain_bytes (n + 1) (drop (i + 1) rows)) left
+    rw (is-bytes, is-next, ← left) (left_more (chain_bytes n) rows i row h is)
 
--- a turn of the loop that writes heads
-pub heads_step :
-    (buffer after bytes : List ℕ) (at n head len : ℕ) (ps : List Processor) (i : ℕ) (p : Processor) (goal : List ℕ) →
-    after ≡ overwritten buffer at bytes → bytes ≡ two_bytes head → head ≡ first n len → len ≡ length (rows_of p) →
-    at ≤ length buffer → i < length ps → p ≡ get_or ps i p →
-    overwritten buffer at (heads_bytes n (map rows_of (drop i ps))) ≡ goal →
-    overwritten after (at + 2) (heads_bytes (n + len) (map rows_of (drop (i + 1) ps))) ≡ goal
-heads_step buffer after bytes at n head len ps i p goal written is-bytes is_head is-len within h is so_far =
-    write_more buffer after at (at + 2) (two_bytes (first n (length (rows_of p))))
-    (heads_bytes (n + len) (map rows_of (drop (i + 1) ps))) (heads_bytes n (map rows_of (drop i ps))) goal
-    (written ∙ ap (overwritten buffer at) (is-bytes ∙ ap two_bytes (is_head ∙ ap (first n) is-len))) refl within
-    (seen_more rows_of (heads_bytes n) ps i p h is
-    ∙ ap (λ k. two_bytes (first n (length (rows_of p))) ++ heads_bytes (n + k) (map rows_of (drop (i + 1) ps))) (sym is-len))
-    so_far
+pub heads_more :
+    (ps : List Processor) (i : ℕ) (p : Processor) (n head len : ℕ) (bytes : List ℕ) → i < length ps → p ≡ get_or ps i p →
+    bytes ≡ two_bytes head → head ≡ first n len → len ≡ length (rows_of p) →
+    heads_bytes n (map rows_of (drop i ps)) ≡ bytes ++ heads_bytes (n + len) (map rows_of (drop (i + 1) ps))
+heads_more ps i p n head len bytes h is is-bytes is_head is-len =
+    rw (is-bytes, is_head, is-len) (seen_more rows_of (heads_bytes n) ps i p h is)
 
--- a turn of the loop that writes one processor's records after another's
-pub records_step :
-    (buffer after : List ℕ) (at n len : ℕ) (rows : List Row) (ps : List Processor) (i : ℕ) (p : Processor) (goal : List ℕ) →
-    after ≡ overwritten buffer at (chain_bytes n rows) → rows ≡ rows_of p → len ≡ length (rows_of p) →
-    at ≤ length buffer → i < length ps → p ≡ get_or ps i p →
-    overwritten buffer at (records_bytes n (map rows_of (drop i ps))) ≡ goal →
-    overwritten after (at + 18 * len) (records_bytes (n + len) (map rows_of (drop (i + 1) ps))) ≡ goal
-records_step buffer after at n len rows ps i p goal written is-rows is-len within h is so_far =
-    write_more buffer after at (at + 18 * len) (chain_bytes n (rows_of p))
-    (records_bytes (n + len) (map rows_of (drop (i + 1) ps))) (records_bytes n (map rows_of (drop i ps))) goal
-    (written ∙ ap (λ q. overwritten buffer at (chain_bytes n q)) is-rows) (omega (arith, length_chain n (rows_of p))) within
-    (seen_more rows_of (records_bytes n) ps i p h is
-    ∙ ap (λ k. chain_bytes n (rows_of p) ++ records_bytes (n + k) (map rows_of (drop (i + 1) ps))) (sym is-len))
-    so_far
+pub records_more :
+    (ps : List Processor) (i : ℕ) (p : Processor) (n len : ℕ) (rows : List Row) → i < length ps → p ≡ get_or ps i p →
+    rows ≡ rows_of p → len ≡ length (rows_of p) →
+    records_bytes n (map rows_of (drop i ps)) ≡ chain_bytes n rows ++ records_bytes (n + len) (map rows_of (drop (i + 1) ps))
+records_more ps i p n len rows h is is-rows is-len =
+    rw (is-rows, is-len) (seen_more rows_of (records_bytes n) ps i p h is)
 
--- a turn of the loop that writes one record after another
-pub chain_step :
-    (buffer after bytes : List ℕ) (at n next : ℕ) (rows : List Row) (i : ℕ) (row : Row) (goal : List ℕ) →
-    after ≡ overwritten buffer at bytes → bytes ≡ record_bytes next row → next ≡ first (n + 1) (length rows - i - 1) →
-    at ≤ length buffer → i < length rows → row ≡ get_or rows i row →
-    overwritten buffer at (chain_bytes n (drop i rows)) ≡ goal →
-    overwritten after (at + 18) (chain_bytes (n + 1) (drop (i + 1) rows)) ≡ goal
-chain_step buffer after bytes at n next rows i row goal written is-bytes is-next within h is so_far =
-    write_more buffer after at (at + 18) (record_bytes (first (n + 1) (length rows - i - 1)) row)
-    (chain_bytes (n + 1) (drop (i + 1) rows)) (chain_bytes n (drop i rows)) goal
-    (written ∙ ap (overwritten buffer at) (is-bytes ∙ ap (λ k. record_bytes k row) is-next)) refl within
-    (chain_more rows i row n h is) so_far
+pub row_count_sum : (ps : List Processor) → row_count (map rows_of ps) ≡ sum_by (λ p. length (rows_of p)) ps
+row_count_sum = is_sum_by (λ ps. row_count (map rows_of ps)) (λ p. length (rows_of p)) refl (λ _ _. refl)
+
+pub row_count_le : (ps : List Processor) → row_count (map rows_of ps) ≤ 32 * length ps
+row_count_le [] = omega arith
+row_count_le (p ∷ ps) =
+    let rest : row_count (map rows_of ps) ≤ 32 * length ps = row_count_le ps in
+    let few : length (rows_of p) ≤ 32 = omega (arith, p.few, p.rows.ok.0) in
+    omega arith

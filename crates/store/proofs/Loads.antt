@@ -1,11 +1,9 @@
 -- The ways in which load ends. Assumes nothing.
-use Rattle.std.proofs.Common.{◌≡◌, ℕ, ◌-◌, Bool, List, map, length, take, Some, None, Ok, Err, Option, Result, sym, refl, ap, ◌∙◌, arith}
+use Rattle.std.proofs.Common.{◌≡◌, ℕ, Bool, List, map, length, Some, None, Ok, Err, Option, Result, sym, refl, ap, ◌∙◌, arith}
 use Rattle.model.specs.declared.timing.Timing.{Timing}
 use Rattle.model.specs.declared.row.Row.{Row}
-use Rattle.store.specs.declared.rows.Rows.{Rows}
 use Rattle.store.specs.declared.fault.BufferFault.{BufferFault}
 use Rattle.store.specs.Answers.{answered}
-use Rattle.store.specs.InPlace.{rows_in}
 use Rattle.store.specs.Record.{entry}
 use Rattle.store.specs.Entries.{entries}
 use Rattle.store.specs.Keys.{key_fault}
@@ -29,35 +27,27 @@ module _ (accepts : List Timing → Bool) (bytes : List ℕ) (before : List (Lis
       Loaded accepts bytes before (answered fault) (replaced fault before rows)
   loaded_as rows fault e is = rw (len, e) (rows, refl, ap answered (sym is), ap (λ o. replaced o before rows) (sym is))
 
-  module _ (array : List Rows) (unpacked : entries m bytes ≡ Ok (map (map entry) (map rows_in (take m array)))) where
-    rows_at : map rows_in (take (m - 0) array) ≡ map rows_in (take m array)
-    rows_at = let z : m - 0 ≡ m = omega arith in rw z
-
+  module _ (rows : List (List Row)) (unpacked : entries m bytes ≡ Ok (map (map entry) rows)) where
     pub loaded_keys :
-        (f : BufferFault) (r : Result (Unit {0}) BufferFault) → r ≡ answered (key_fault (map rows_in (take (m - 0) array))) → r ≡ Err f →
-        Loaded accepts bytes before (Err f) before
+        (f : BufferFault) (r : Result (Unit {0}) BufferFault) → r ≡ answered (key_fault rows) → r ≡ Err f → Loaded accepts bytes before (Err f) before
     loaded_keys f r keys was =
-        let rows = map rows_in (take m array) in
-        let k = answered_some (key_fault rows) f r (keys ∙ ap (λ q. answered (key_fault q)) rows_at) was in
+        let k = answered_some (key_fault rows) f r keys was in
         loaded_as rows (Some f) unpacked (ap (λ o. first_of o (judge_fault accepts 1 rows)) k)
 
-    module _ (x : Unit {0}) (r : Result (Unit {0}) BufferFault) (keys : r ≡ answered (key_fault (map rows_in (take (m - 0) array)))) (was : r ≡ Ok x) where
-      keys_none : key_fault (map rows_in (take m array)) ≡ None
-      keys_none = answered_none (key_fault (map rows_in (take m array))) x r (keys ∙ ap (λ q. answered (key_fault q)) rows_at) was
+    module _ (x : Unit {0}) (r : Result (Unit {0}) BufferFault) (keys : r ≡ answered (key_fault rows)) (was : r ≡ Ok x) where
+      keys_none : key_fault rows ≡ None
+      keys_none = answered_none (key_fault rows) x r keys was
 
       pub loaded_judge :
-          (f : BufferFault) (s : Result (Unit {0}) BufferFault) → s ≡ answered (judge_fault accepts 1 (map rows_in (take (m - 0) array))) → s ≡ Err f →
+          (f : BufferFault) (s : Result (Unit {0}) BufferFault) → s ≡ answered (judge_fault accepts 1 rows) → s ≡ Err f →
           Loaded accepts bytes before (Err f) before
       loaded_judge f s judged no_way =
-          let rows = map rows_in (take m array) in
-          let j = answered_some (judge_fault accepts 1 rows) f s (judged ∙ ap (λ q. answered (judge_fault accepts 1 q)) rows_at) no_way in
+          let j = answered_some (judge_fault accepts 1 rows) f s judged no_way in
           loaded_as rows (Some f) unpacked (ap (λ o. first_of o (judge_fault accepts 1 rows)) keys_none ∙ j)
 
       pub loaded_all :
           (y : Unit {0}) (s : Result (Unit {0}) BufferFault) (after : List (List Row)) →
-          s ≡ answered (judge_fault accepts 1 (map rows_in (take (m - 0) array))) → s ≡ Ok y → after ≡ map rows_in (take (m - 0) array) →
-          Loaded accepts bytes before (Ok tt) after
+          s ≡ answered (judge_fault accepts 1 rows) → s ≡ Ok y → after ≡ rows → Loaded accepts bytes before (Ok tt) after
       loaded_all y s after judged good is =
-          let rows = map rows_in (take m array) in
-          let j = answered_none (judge_fault accepts 1 rows) y s (judged ∙ ap (λ q. answered (judge_fault accepts 1 q)) rows_at) good in
-          rw (is, rows_at) (loaded_as rows None unpacked (ap (λ o. first_of o (judge_fault accepts 1 rows)) keys_none ∙ j))
+          let j = answered_none (judge_fault accepts 1 rows) y s judged good in
+          rw is (loaded_as rows None unpacked (ap (λ o. first_of o (judge_fault accepts 1 rows)) keys_none ∙ j))

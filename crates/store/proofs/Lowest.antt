@@ -1,7 +1,7 @@
 -- The places that are told are the lowest. Assumes nothing.
-use Rattle.std.proofs.Common.{◌≡◌, ℕ, zero, suc, ◌+◌, ◌-◌, ◌<◌, ◌≤◌, Bool, true, false, cond, ◌&&◌, ◌||◌, eqb, ltb, ◌⊎◌, List, [], ◌∷◌, ◌++◌, length, get_or, Some, None, Option, sym, refl, ap, ◌∙◌, subst, inl, inr, ⊎_elim, arith}
+use Rattle.std.proofs.Common.{◌≡◌, ℕ, zero, suc, ◌+◌, ◌-◌, ◌<◌, ◌≤◌, Bool, true, false, cond, ◌&&◌, ◌||◌, eqb, ltb, ◌⊎◌, List, [], ◌∷◌, ◌++◌, map, min, filter, length, get_or, Some, None, Option, sym, refl, ap, ◌∙◌, subst, inl, inr, ⊎_elim, arith}
 use Rattle.std.specs.List.{AllByRecursion}
-use Rattle.std.proofs.lemmas.Bool.{eqb-true, eqb-false, ltb-true, ltb-false, and_parts, and_cases, or_cases, or_parts, cases_lt, cases_Bool, cases_eq, both_ways}
+use Rattle.std.proofs.lemmas.Bool.{eq-eqb, ne_eqb, lt-ltb, le-ltb, eqb-true, eqb-false, ltb-true, ltb-false, and_parts, and_cases, or_cases, or_parts, cases_lt, cases_Bool, cases_eq, both_ways}
 use Rattle.model.specs.declared.timing.Timing.{Timing}
 use Rattle.model.specs.declared.row.Row.{Row}
 use Rattle.model.specs.Row.{timings}
@@ -12,7 +12,10 @@ use Rattle.store.specs.Fault.{fault}
 use Rattle.store.specs.Record.{bad_entry}
 use Rattle.store.specs.Records.{record_fault}
 use Rattle.store.specs.Judged.{judge_fault}
-use Rattle.store.specs.Keys.{bad_key, lower, lowest_in, lowest_of}
+use Rattle.store.specs.Keys.{bad_key, keys_fault, lower, lowest_in, lowest_of}
+use Rattle.std.specs.List.{fold, reduce}
+use Rattle.std.proofs.lemmas.Bool.Decides.{nat_tests}
+use Rattle.store.specs.Gathered.{lowest_key}
 use Rattle.store.specs.Loading.{all_of, KeyOf, LowestKey, LowestRecord, LowestJudged}
 
 -- a test that tells a refusal, or passes
@@ -278,3 +281,54 @@ key_is plan key keyed lowest =
     let down : key ≤ v = at_key (λ k. bad_key plan k ≡ true → key ≤ k) v (all_of plan) found.1 lowest.lowest found.0 in
     omega arith)
     (cases_eq v 0)
+
+-- the lowest so far, as the least of the bad keys
+fold_low :
+    (bad : ℕ → Bool) (rows : List Row) (lowest : ℕ) → 1 ≤ lowest → AllByRecursion (λ row. 1 ≤ row.key) rows →
+    (lowest_in bad lowest rows ≡ fold min lowest (filter bad (map (λ row. row.key) rows))) × (1 ≤ lowest_in bad lowest rows)
+fold_low bad [] lowest some all = (refl, some)
+fold_low bad (row ∷ rows) lowest some all =
+    let rest = filter bad (map (λ row. row.key) rows) in
+    elim (bad row.key) as (λ b. (lowest_in bad (cond ((eqb lowest 0 || ltb row.key lowest) && b) row.key lowest) rows ≡ fold min lowest (cond b (row.key ∷ rest) rest))
+    × (1 ≤ lowest_in bad (cond ((eqb lowest 0 || ltb row.key lowest) && b) row.key lowest) rows)) [
+      | true ↦ rw (lower_min lowest row.key some) (fold_low bad rows (min lowest row.key) (omega arith) all.1)
+      | false ↦ rw (and_no (eqb lowest 0 || ltb row.key lowest)) (fold_low bad rows lowest some all.1)
+    ]
+  where
+    and_no : (b : Bool) → (b && false) ≡ false
+    and_no true = refl
+    and_no false = refl
+
+    lower_min : (lowest key : ℕ) → 1 ≤ lowest → cond ((eqb lowest 0 || ltb key lowest) && true) key lowest ≡ min lowest key
+    lower_min lowest key some = grind (arith, nat_tests)
+
+-- none, or the lowest
+abbrev pub IsLowest : ℕ → Option ℕ → Type 0
+IsLowest lowest None = lowest ≡ 0
+IsLowest lowest (Some key) = (lowest ≡ key) × (1 ≤ key)
+
+first_low :
+    (bad : ℕ → Bool) (rows : List Row) → AllByRecursion (λ row. 1 ≤ row.key) rows →
+    IsLowest (lowest_in bad 0 rows) (reduce min (filter bad (map (λ row. row.key) rows)))
+first_low bad [] all = refl
+first_low bad (row ∷ rows) all =
+    let rest = filter bad (map (λ row. row.key) rows) in
+    elim (bad row.key) as (λ b. IsLowest (lowest_in bad (cond ((eqb 0 0 || ltb row.key 0) && b) row.key 0) rows) (reduce min (cond b (row.key ∷ rest) rest))) [
+      | true ↦ let f = fold_low bad rows row.key all.0 all.1 in (f.0, rw (← f.0) f.1)
+      | false ↦ first_low bad rows all.1
+    ]
+
+pub key_is_lowest :
+    (plan : List (List Row)) (key : Option ℕ) → AllByRecursion (λ row. 1 ≤ row.key) (all_of plan) → key ≡ lowest_key plan →
+    IsLowest (lowest_of (bad_key plan) 0 plan) key
+key_is_lowest plan key keyed is = rw (is, lowest_flat (bad_key plan) 0 plan) (first_low (bad_key plan) (all_of plan) keyed)
+
+-- what the lowest key and the number of keys refuse
+pub key_told : (v c key : ℕ) → v ≡ key → 1 ≤ key → keys_fault v c ≡ Some (fault BufferRule.Key key)
+key_told v c key is some = rw (is, ne_eqb key 0 (λ e. omega arith)) refl
+
+pub keys_told : (v c : ℕ) → v ≡ 0 → 64 < c → keys_fault v c ≡ Some (fault BufferRule.Keys 0)
+keys_told v c z many = rw (eq-eqb v 0 z, lt-ltb 64 c many) refl
+
+pub none_told : (v c : ℕ) → v ≡ 0 → c ≤ 64 → keys_fault v c ≡ None
+none_told v c z few = rw (eq-eqb v 0 z, le-ltb 64 c few) refl

@@ -15,12 +15,12 @@ use Rattle.store.specs.Header.{header_fault, record_count, image_length}
 use Rattle.store.specs.Record.{entry, entry_at, next_at, bad_entry, bad_part}
 use Rattle.store.specs.Records.{record_fault}
 use Rattle.store.specs.Chains.{head_at, chains}
-use Rattle.store.specs.Entries.{unless, along}
+use Rattle.store.specs.Entries.{unless, along, entries}
 use Rattle.store.specs.Keys.{bad_key, lowest_of, keys}
 use Rattle.store.specs.Judged.{judge_fault}
 use Rattle.store.specs.Load.{plan_fault, first_of, replaced, Taken, Loaded}
 use Rattle.store.specs.Loading.{all_of, Lies, Stuck, LeftOver, PlanOf, Loads}
-use Rattle.store.proofs.LoadedPlans.{fault_none, record_good, plan_good, all_good}
+use Rattle.store.proofs.LoadedPlans.{fault_none, record_good, plan_good, all_good, unless_ok, along_ok}
 use Rattle.store.proofs.Reaches.{chains_numbered}
 use Rattle.store.proofs.Lying.{ChainsLie, chains_lie}
 use Rattle.store.proofs.Lowest.{record_lowest, judge_lowest, judge_all, key_none, key_lowest}
@@ -52,6 +52,16 @@ keyed (row ∷ rows) good = (keyed_entry row good.0, keyed rows good.1)
 pub all_keyed : (plan : List (List Row)) → AllByRecursion (AllByRecursion (λ row. bad_entry (entry row) ≡ false)) plan → AllByRecursion (λ row. 1 ≤ row.key) (all_of plan)
 all_keyed [] good = tt
 all_keyed (rows ∷ plan) good = All-append (λ row. 1 ≤ row.key) rows (all_of plan) (keyed rows good.0) (all_keyed plan good.1)
+
+-- no key of what an image says is 0
+pub stored_keyed : (m : ℕ) (bytes : List ℕ) (plan : List (List Row)) → entries m bytes ≡ Ok (map (map entry) plan) → AllByRecursion (λ row. 1 ≤ row.key) (all_of plan)
+stored_keyed m bytes plan e =
+    let says = entry_at m bytes in
+    let w = chains (head_at bytes) (next_at m bytes) m (record_count bytes) in
+    let u = unless_ok (header_fault m bytes) (along says (record_count bytes) w) (map (map entry) plan) e in
+    let a = along_ok says (record_count bytes) w (map (map entry) plan) u.1 in
+    let numbered = chains_numbered (head_at bytes) (next_at m bytes) m (record_count bytes) a.0 a.1 in
+    all_keyed plan (plan_good plan (subst (AllByRecursion (AllByRecursion (λ e. bad_entry e ≡ false))) a.3 (all_good says (record_count bytes) a.2 a.0 numbered)))
 
 module _ (accepts : List Timing → Bool) (bytes : List ℕ) (before : List (List Row)) where
   settle :

@@ -1,16 +1,14 @@
 -- Every number on a chain is that of a record, and the rows picked along chains are what the records say. Assumes nothing.
 use Rattle.std.proofs.Common.{◌≡◌, ℕ, zero, suc, ◌+◌, ◌-◌, ◌<◌, ◌≤◌, Bool, false, cond, eqb, ltb, List, [], ◌∷◌, ◌++◌, map, get_or, take, replicate, Some, None, Ok, Err, Option, Result, refl, ap, ◌∙◌, subst, ap₂, arith, lit≤}
 use Rattle.std.specs.List.{AllByRecursion}
-use Rattle.std.proofs.ByRecursion.{All-push, All-weaker}
+use Rattle.std.proofs.ByRecursion.{All-push}
 use Rattle.std.proofs.lemmas.Bool.{cond_both, eqb-false, ltb-false, or_parts}
 use Rattle.model.specs.declared.row.Kind.{Kind}
 use Rattle.model.specs.declared.row.Row.{Row}
 use Rattle.store.specs.declared.entry.Entry.{Entry}
-use Rattle.store.specs.declared.chain.Chain.{Chain}
 use Rattle.store.specs.declared.fault.BufferFault.{BufferFault}
 use Rattle.store.specs.declared.fault.BufferRule.{BufferRule}
 use Rattle.store.specs.Fault.{fault}
-use Rattle.store.specs.InPlace.{numbers_of}
 use Rattle.store.specs.Record.{entry}
 use Rattle.store.specs.Records.{Numbered, picked}
 use Rattle.store.specs.Chains.{barred, reach, walk, walks, sound_or, all_true, covered, chains}
@@ -70,13 +68,6 @@ chains_numbered head next m r l e =
     subst (ChainsNumbered r) e
     (covered_numbered r (walks head next r m 0 [] (replicate 256 false)) (walks_numbered head next r m 0 [] (replicate 256 false) tt))
 
-pub numbered_array : (r : ℕ) (array : List Chain) → r ≤ 256 → AllByRecursion (Numbered r) (map numbers_of array) → AllByRecursion (λ c. Numbered 256 (numbers_of c)) array
-numbered_array r [] few all = tt
-numbered_array r (c ∷ array) few all = (
-  All-weaker (λ n. (1 ≤ n) × (n ≤ r)) (λ n. (1 ≤ n) × (n ≤ 256)) (λ n h. (h.0, omega arith)) (numbers_of c) all.0,
-  numbered_array r array few all.1,
-)
-
 module _ (says : ℕ → Entry) (rows : List Row) (r : ℕ) (d : Row)
     (read : (k : ℕ) (d : Row) → k < r → entry (get_or rows k d) ≡ says (k + 1)) where
   picked_says : (numbers : List ℕ) → Numbered r numbers → map entry (picked rows d numbers) ≡ map says numbers
@@ -86,11 +77,11 @@ module _ (says : ℕ → Entry) (rows : List Row) (r : ℕ) (d : Row)
       ap₂ (λ (e : Entry) (l : List Entry). e ∷ l) (read (n - 1) d (omega arith) ∙ ap says same) (picked_says numbers all.1)
 
   pub picked_all :
-      (array : List Chain) → AllByRecursion (Numbered r) (map numbers_of array) →
-      map (map entry) (map (λ c. picked rows d (numbers_of c)) array) ≡ map (map says) (map numbers_of array)
+      (chains : List (List ℕ)) → AllByRecursion (Numbered r) chains →
+      map (map entry) (map (picked rows d) chains) ≡ map (map says) chains
   picked_all [] all = refl
-  picked_all (c ∷ array) all =
-      ap₂ (λ (e : List Entry) (l : List (List Entry)). e ∷ l) (picked_says (numbers_of c) all.0) (picked_all array all.1)
+  picked_all (c ∷ chains) all =
+      ap₂ (λ (e : List Entry) (l : List (List Entry)). e ∷ l) (picked_says c all.0) (picked_all chains all.1)
 
 -- some row
 pub blank : Row

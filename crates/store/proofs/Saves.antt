@@ -6,7 +6,9 @@ use Rattle.processor.specs.Rows.{rows_of}
 use Rattle.model.specs.declared.row.Row.{Row}
 use Rattle.store.specs.Image.{header_bytes, heads_bytes, records_bytes, row_count, image}
 use Rattle.store.specs.Buffer.{overwritten}
-use Rattle.store.proofs.Buffers.{overwritten_more}
+use Rattle.store.specs.declared.writer.Writer.{Writer}
+use Rattle.store.specs.Written.{Wrote}
+use Rattle.store.proofs.Buffers.{wrote_both}
 use Rattle.store.proofs.Images.{length_heads, length_records}
 
 pub length_image : (plan : List (List Row)) → length (image plan) ≡ 4 + 2 * length plan + 18 * row_count plan
@@ -14,28 +16,10 @@ length_image plan =
     omega (arith, length-append (heads_bytes 1 plan) (records_bytes 1 plan), length_heads 1 plan, length_records 1 plan)
 
 -- the header, the heads and the records, one write after the other
-parts_written :
-    (plan : List (List Row)) (buffer : List ℕ) → length (image plan) ≤ length buffer →
-    overwritten (overwritten (overwritten buffer 0 (header_bytes (length plan) (row_count plan))) 4 (heads_bytes 1 plan))
-    (4 + 2 * length plan) (records_bytes 1 plan) ≡ overwritten buffer 0 (image plan)
-parts_written plan buffer fits =
-    let head = header_bytes (length plan) (row_count plan) in
-    let tops = heads_bytes 1 plan in
-    let rest = records_bytes 1 plan in
-    let b = overwritten buffer 0 head in
-    let long : 4 ≤ length b = omega (arith, length-append tops rest) in
-    overwritten_more b 4 tops rest (4 + 2 * length plan) (omega (arith, length_heads 1 plan)) long
-    ∙ overwritten_more buffer 0 head (tops ++ rest) 4 refl (omega arith)
-
-pub image_written :
-    (ps : List Processor) (buffer header b c after : List ℕ) (r : ℕ) → r ≡ row_count (map rows_of ps) →
-    length (image (map rows_of ps)) ≤ length buffer → header ≡ header_bytes (length ps) r →
-    b ≡ overwritten buffer 0 header → c ≡ overwritten b 4 (heads_bytes 1 (map rows_of ps)) →
-    after ≡ overwritten c (4 + 2 * length ps) (records_bytes 1 (map rows_of ps)) → after ≡ overwritten buffer 0 (image (map rows_of ps))
-image_written ps buffer header b c after r is-r fits is-header is_b is_c is_after =
-    let l : length ps ≡ length (map rows_of ps) = sym (length-map ps rows_of) in
-    is_after
-    ∙ (ap (λ q. overwritten q (4 + 2 * length ps) (records_bytes 1 (map rows_of ps))) (is_c ∙ ap (λ q. overwritten q 4 (heads_bytes 1 (map rows_of ps)))
-    (is_b ∙ ap (overwritten buffer 0) (is-header ∙ ap (header_bytes (length ps)) is-r)))
-    ∙ (ap (λ n. overwritten (overwritten (overwritten buffer 0 (header_bytes n (row_count (map rows_of ps)))) 4 (heads_bytes 1 (map rows_of ps))) (4 + 2 * n) (records_bytes 1 (map rows_of ps))) l
-    ∙ parts_written (map rows_of ps) buffer fits))
+pub image_wrote :
+    (plan : List (List Row)) (a b c d : Writer) (header : List ℕ) (m r : ℕ) → length (image plan) ≤ length a.buffer.now → a.at ≡ 0 →
+    header ≡ header_bytes m r → m ≡ length plan → r ≡ row_count plan → Wrote a b header → Wrote b c (heads_bytes 1 plan) → Wrote c d (records_bytes 1 plan) →
+    b.at ≤ length b.buffer.now → d.buffer.now ≡ overwritten a.buffer.now 0 (image plan)
+image_wrote plan a b c d header m r fits front is_header is-m is-r p q s within =
+    let all = wrote_both a b d header (heads_bytes 1 plan ++ records_bytes 1 plan) p (wrote_both b c d (heads_bytes 1 plan) (records_bytes 1 plan) q s within) (omega arith) in
+    all.buffer ∙ rw (front, is_header, is-m, is-r) refl

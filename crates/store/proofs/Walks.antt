@@ -1,13 +1,11 @@
 -- A chain's walk, one record on and at its end. Assumes nothing.
-use Rattle.std.proofs.Common.{◌≡◌, ℕ, zero, suc, ◌+◌, ◌-◌, ◌<◌, ◌≤◌, Bool, true, false, cond, ◌≢◌, List, [], ◌∷◌, ◌++◌, map, length, take, set, replicate, Some, None, Ok, Err, Option, Result, sym, refl, ap, ◌∙◌, arith}
-use Rattle.std.proofs.lemmas.List.{take_more_set, map_push}
-use Rattle.std.proofs.lemmas.Bool.{eq-eqb, ne_eqb}
+use Rattle.std.proofs.Common.{◌≡◌, ℕ, zero, suc, ◌+◌, ◌-◌, ◌<◌, ◌≤◌, Bool, true, false, cond, ◌≢◌, List, [], ◌∷◌, ◌++◌, ltb, length, get_or, take, replicate, Some, None, Ok, Err, Option, Result, sym, refl, ap, ◌∙◌, arith}
+use Rattle.std.proofs.lemmas.List.{length_push}
+use Rattle.std.proofs.lemmas.Bool.{eq-eqb, ne_eqb, ltb-false, or_parts}
 use Rattle.store.specs.declared.fault.BufferFault.{BufferFault}
 use Rattle.store.specs.declared.fault.BufferRule.{BufferRule}
 use Rattle.store.specs.Fault.{fault}
 use Rattle.store.specs.Chains.{walk, walks, chains, covered, all_true, barred, reach}
-use Rattle.store.specs.InPlace.{numbers_of}
-use Rattle.store.specs.declared.chain.Chain.{Chain}
 
 pub walk_done :
     (next : ℕ → ℕ) (r room number : ℕ) (so_far : List ℕ) (reached : List Bool) → number ≡ 0 →
@@ -57,17 +55,23 @@ pub refused :
 refused true f e r value err = (refl, cc)
 refused false f e r value err = let z : ◌≡◌ {A = ℕ} 0 1 = cc in absurd (omega arith)
 
+-- a number that is not barred is that of a record
+pub within : (r number : ℕ) (reached : List Bool) → barred r reached number ≡ false → number ≤ r
+within r number reached open' = ltb-false r number (or_parts (ltb r number) (get_or reached (number - 1) false) open').0
+
 -- a turn of the loop that follows a chain
 pub walk_again :
-    (next : ℕ → ℕ) (r count count' number number' : ℕ) (so_far so-far' : List ℕ) (reached reached' : List Bool)
+    (next : ℕ → ℕ) (r number number' : ℕ) (so_far so-far' : List ℕ) (reached reached' : List Bool)
     (goal : Option (List ℕ × List Bool)) (f : BufferFault) (x : Unit {0}) (res : Result (Unit {0}) BufferFault) →
-    count < 32 → number ≢ 0 → res ≡ cond (barred r reached number) (Err f) (Ok tt) → res ≡ Ok x →
-    reached' ≡ cond (barred r reached number) reached (reach reached number) → count' ≡ count + 1 →
+    length so_far < 32 → number ≢ 0 → res ≡ cond (barred r reached number) (Err f) (Ok tt) → res ≡ Ok x →
+    reached' ≡ cond (barred r reached number) reached (reach reached number) →
     so-far' ≡ so_far ++ (number ∷ []) → number' ≡ next number →
-    walk next r (32 - count) number so_far reached ≡ goal → walk next r (32 - count') number' so-far' reached' ≡ goal
-walk_again next r count count' number number' so_far so-far' reached reached' goal f x res few nz value ok after is-count is-so-far is_number inv =
+    walk next r (32 - length so_far) number so_far reached ≡ goal →
+    walk next r (32 - length so-far') number' so-far' reached' ≡ goal
+walk_again next r number number' so_far so-far' reached reached' goal f x res few nz value ok after is-so-far is_number inv =
     let open' = marked (barred r reached number) f x res value ok in
-    rw (is-count, is-so-far, is_number, after, open') (sym (walk_more next r count number so_far reached few nz open') ∙ inv)
+    rw (is-so-far, length_push so_far number, is_number, after, open')
+    (sym (walk_more next r (length so_far) number so_far reached few nz open') ∙ inv)
 
 -- the processors' chains, one processor on and at the end
 pub walks_suc :
@@ -106,23 +110,19 @@ walks_all head next r left p so_far reached e = rw e
 
 -- a turn of the loop over the processors
 pub walks_again :
-    (head next : ℕ → ℕ) (r m p : ℕ) (array : List Chain) (reached after : List Bool) (chain : Chain)
-    (goal : Result (List (List ℕ) × List Bool) BufferFault) → p < m → p < length array →
-    walk next r 32 (head p) [] reached ≡ Some (numbers_of chain, after) →
-    walks head next r (m - p) p (map numbers_of (take p array)) reached ≡ goal →
-    walks head next r (m - (p + 1)) (p + 1) (map numbers_of (take (p + 1) (set array p chain))) after ≡ goal
-walks_again head next r m p array reached after chain goal h within e inv =
-    rw (take_more_set array p chain within, map_push numbers_of (take p array) chain)
-    (sym (walks_more head next r m p (map numbers_of (take p array)) reached (numbers_of chain) after h e) ∙ inv)
+    (head next : ℕ → ℕ) (r m p : ℕ) (so_far more : List (List ℕ)) (reached after : List Bool) (chain : List ℕ)
+    (goal : Result (List (List ℕ) × List Bool) BufferFault) → p < m →
+    walk next r 32 (head p) [] reached ≡ Some (chain, after) → more ≡ so_far ++ (chain ∷ []) →
+    walks head next r (m - p) p so_far reached ≡ goal → walks head next r (m - (p + 1)) (p + 1) more after ≡ goal
+walks_again head next r m p so_far more reached after chain goal h e pushed inv =
+    rw pushed (sym (walks_more head next r m p so_far reached chain after h e) ∙ inv)
 
 -- its end, with the test of what was reached
 pub chains_end :
-    (head next : ℕ → ℕ) (r m p : ℕ) (array : List Chain) (reached : List Bool) (b : Bool) → m ≤ p → p ≤ m →
-    walks head next r (m - p) p (map numbers_of (take p array)) reached ≡ walks head next r m 0 [] (replicate 256 false) →
-    b ≡ all_true (take (r - 0) reached) →
-    chains head next m r ≡ cond b (Ok (map numbers_of (take m array))) (Err (fault BufferRule.Chains 0))
-chains_end head next r m p array reached b low high inv is =
-    let same : p ≡ m = omega arith in
-    let none : r - 0 ≡ r = omega arith in
-    let done = walks_all head next r (m - p) p (map numbers_of (take p array)) reached (omega arith) in
-    ap (covered r) (sym inv ∙ done) ∙ rw (is, none, same)
+    (head next : ℕ → ℕ) (r m p : ℕ) (all : List (List ℕ)) (reached : List Bool) (b : Bool) → m ≤ p → p ≤ m →
+    walks head next r (m - p) p all reached ≡ walks head next r m 0 [] (replicate 256 false) →
+    b ≡ all_true (take r reached) →
+    chains head next m r ≡ cond b (Ok all) (Err (fault BufferRule.Chains 0))
+chains_end head next r m p all reached b low high inv is =
+    let done = walks_all head next r (m - p) p all reached (omega arith) in
+    ap (covered r) (sym inv ∙ done) ∙ rw is

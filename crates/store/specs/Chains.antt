@@ -1,11 +1,9 @@
 -- The chains of an image, followed in rising processor order. Assumes nothing.
-use Rattle.std.specs.Prelude.{◌≡◌, ℕ, zero, suc, ◌+◌, ◌-◌, ◌*◌, Bool, true, false, cond, ◌&&◌, ◌||◌, List, [], ◌∷◌, ◌++◌, map, length, take, replicate, Some, None, Ok, Err, Option, Result, ◌==◌, nat_lt, slice_index_or, slice_set}
+use Rattle.std.specs.Prelude.{ℕ, zero, suc, ◌+◌, ◌-◌, ◌*◌, Bool, true, false, cond, ◌&&◌, ◌||◌, List, [], ◌∷◌, ◌++◌, take, replicate, Some, None, Ok, Err, Option, Result, ◌==◌, nat_lt, slice_index_or, slice_set}
 use Rattle.store.specs.declared.fault.BufferFault.{BufferFault}
 use Rattle.store.specs.declared.fault.BufferRule.{BufferRule}
-use Rattle.store.specs.declared.chain.Chain.{Chain}
 use Rattle.store.specs.Fault.{fault}
 use Rattle.store.specs.Numbers.{two_at}
-use Rattle.store.specs.InPlace.{numbers_of}
 
 -- the number of the first record of a processor's chain, processors counted from 0
 abbrev pub head_at : List ℕ → ℕ → ℕ
@@ -51,13 +49,3 @@ covered r (Err f) = Err f
 -- the chains of an image of m processors and r records, none of whose 256 places was reached before
 abbrev pub chains : (ℕ → ℕ) → (ℕ → ℕ) → ℕ → ℕ → Result (List (List ℕ)) BufferFault
 chains head next m r = covered r (walks head next r m 0 [] (replicate 256 false))
-
--- the chain and what has been reached then, or the refusal of this processor's chain
-abbrev pub Followed : Option (List ℕ × List Bool) → ℕ → List Bool → Result Chain BufferFault → Type 0
-Followed w place reached (Ok chain) = w ≡ Some (numbers_of chain, reached)
-Followed w place reached (Err f) = (w ≡ None) × (f ≡ fault BufferRule.Chains place)
-
--- the chains as the first m of an array, or the refusal
-abbrev pub Chained : Result (List (List ℕ)) BufferFault → ℕ → Result (List Chain) BufferFault → Type 0
-Chained w m (Ok chains) = (w ≡ Ok (map numbers_of (take m chains))) × (length chains ≡ 8)
-Chained w m (Err f) = w ≡ Err f

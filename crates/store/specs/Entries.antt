@@ -1,11 +1,9 @@
 -- What an image says of a plan's rows, by its format alone. Assumes nothing.
-use Rattle.std.specs.Prelude.{◌≡◌, ℕ, List, map, length, take, Some, None, Ok, Err, Option, Result}
+use Rattle.std.specs.Prelude.{ℕ, List, map, Some, None, Ok, Err, Option, Result}
 use Rattle.store.specs.declared.entry.Entry.{Entry}
-use Rattle.store.specs.declared.rows.Rows.{Rows}
 use Rattle.store.specs.declared.fault.BufferFault.{BufferFault}
-use Rattle.store.specs.InPlace.{rows_in}
 use Rattle.store.specs.Header.{header_fault, record_count}
-use Rattle.store.specs.Record.{entry, entry_at, next_at}
+use Rattle.store.specs.Record.{entry_at, next_at}
 use Rattle.store.specs.Chains.{chains, head_at}
 use Rattle.store.specs.Records.{record_fault}
 
@@ -24,8 +22,3 @@ abbrev pub entries : ℕ → List ℕ → Result (List (List Entry)) BufferFault
 entries m bytes =
     unless (header_fault m bytes)
     (along (entry_at m bytes) (record_count bytes) (chains (head_at bytes) (next_at m bytes) m (record_count bytes)))
-
--- rows of just these entries, as the first m of an array; or the refusal
-abbrev pub Unpacked : ℕ → Result (List (List Entry)) BufferFault → Result (List Rows) BufferFault → Type 0
-Unpacked m stored (Ok array) = (stored ≡ Ok (map (map entry) (map rows_in (take m array)))) × (length array ≡ 8)
-Unpacked m stored (Err f) = stored ≡ Err f

@@ -1,8 +1,7 @@
 -- The header of an image. Assumes nothing.
-use Rattle.std.specs.Prelude.{◌≡◌, ℕ, ◌+◌, ◌*◌, cond, not, List, length, Some, None, Ok, Err, Option, Result, ◌==◌, nat_lt}
+use Rattle.std.specs.Prelude.{ℕ, ◌+◌, ◌*◌, cond, not, List, length, Some, None, Option, ◌==◌, nat_lt}
 use Rattle.store.specs.declared.fault.BufferFault.{BufferFault}
 use Rattle.store.specs.declared.fault.BufferRule.{BufferRule}
-use Rattle.store.specs.declared.shape.Shape.{Shape}
 use Rattle.store.specs.Fault.{fault}
 use Rattle.store.specs.Numbers.{byte_at, two_at}
 
@@ -22,10 +21,3 @@ header_fault m bytes =
     (cond (not (byte_at bytes 1 == m)) (Some (fault BufferRule.Processors 0))
     (cond (nat_lt 256 (record_count bytes)) (Some (fault BufferRule.Length 0))
     (cond (not (length bytes == image_length m (record_count bytes))) (Some (fault BufferRule.Length 0)) None))))
-
--- what the header says, or the first rule that it breaks
-abbrev pub Shaped : ℕ → List ℕ → Result Shape BufferFault → Type 0
-Shaped m bytes (Ok shape) =
-    (header_fault m bytes ≡ None) × (shape.processors ≡ m) × (shape.records ≡ record_count bytes)
-    × (length bytes ≡ image_length m (record_count bytes))
-Shaped m bytes (Err f) = header_fault m bytes ≡ Some f

@@ -1,11 +1,8 @@
 -- What lists in place hold. Assumes nothing.
-use Rattle.std.specs.Prelude.{ℕ, List, take}
-use Rattle.model.specs.declared.row.Row.{Row}
-use Rattle.store.specs.declared.chain.Chain.{Chain}
-use Rattle.store.specs.declared.rows.Rows.{Rows}
+use Rattle.std.specs.Prelude.{List, map, take}
+use Rattle.processor.specs.Few.{held}
+use Rattle.store.specs.declared.lists.Lists.{Lists}
 
-abbrev pub numbers_of : Chain → List ℕ
-numbers_of c = take c.count c.numbers
-
-abbrev pub rows_in : Rows → List Row
-rows_in r = take r.count r.rows
+-- the elements of each list
+abbrev pub all_held : {X : Type 0} → Lists X → List (List X)
+all_held l = map held (take l.count l.lists)

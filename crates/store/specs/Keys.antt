@@ -1,11 +1,9 @@
 -- Which rows of a key make a reservation. Assumes nothing.
-use Rattle.std.specs.Prelude.{◌≡◌, ℕ, zero, suc, ◌+◌, Bool, true, false, cond, not, ◌&&◌, ◌||◌, List, [], ◌∷◌, ◌++◌, length, Some, None, filter, Option, ◌==◌, nat_eq, nat_le, nat_lt}
+use Rattle.std.specs.Prelude.{ℕ, zero, suc, ◌+◌, Bool, true, false, cond, not, ◌&&◌, ◌||◌, List, [], ◌∷◌, ◌++◌, length, Some, None, filter, Option, ◌==◌, nat_eq, nat_le, nat_lt}
 use Rattle.model.specs.declared.row.Row.{Row}
 use Rattle.model.specs.Row.{kind_number, part}
 use Rattle.store.specs.declared.fault.BufferFault.{BufferFault}
 use Rattle.store.specs.declared.fault.BufferRule.{BufferRule}
-use Rattle.store.specs.declared.rows.Rows.{Rows}
-use Rattle.store.specs.InPlace.{rows_in}
 use Rattle.store.specs.Fault.{fault}
 
 -- the rows of a key on one processor, and on all
@@ -20,11 +18,6 @@ pieces key (rows ∷ plan) = of_key key rows ++ pieces key plan
 abbrev pub apart : ℕ → List (List Row) → Bool
 apart key [] = true
 apart key (rows ∷ plan) = nat_le (length (of_key key rows)) 1 && apart key plan
-
--- the rows of a key if they are on different processors
-abbrev pub Gathered : ℕ → List (List Row) → Option Rows → Type 0
-Gathered key plan (Some found) = (apart key plan ≡ true) × (rows_in found ≡ pieces key plan)
-Gathered key plan None = apart key plan ≡ false
 
 -- a head or a tail of this period, and all of them
 abbrev pub piece : ℕ → Row → Bool

@@ -1,18 +1,9 @@
-// Records as bytes, and bytes into a buffer.
-ghost use Rattle.std.specs.Prelude.{◌≡◌, ◌+◌, ◌≤◌, length};
+// Headers and records as bytes.
+ghost use Rattle.std.specs.Prelude.{◌≡◌};
 ghost use Rattle.store.specs.Image.{header_bytes, record_bytes, first};
-ghost use Rattle.store.specs.Buffer.{overwritten};
 ghost use Rattle.store.specs.Numbers.{two_bytes};
 
 use model::row::{Kind, Row};
-
-// Writes bytes into a buffer from a place on.
-pub(crate) fn put(buffer: &mut [u8], at: usize, bytes: &[u8])
-    requires { at + length bytes.now ≤ length buffer.old }
-    ensures { buffer.new ≡ overwritten buffer.old at bytes.now }
-{
-    buffer[at..at + bytes.len()].copy_from_slice(bytes);
-}
 
 // The form, the processor count and the record count.
 pub(crate) fn header(processors: u8, records: u16) -> [u8; 4]

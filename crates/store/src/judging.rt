@@ -1,53 +1,37 @@
 // The judge's yes to every processor's rows.
-ghost use Rattle.std.specs.Prelude.{◌≡◌, ◌≤◌, map, length, if◌then◌else◌, Ok, Err};
+ghost use Rattle.std.specs.Prelude.{◌≡◌, ◌+◌, ◌≤◌, length, if◌then◌else◌, Ok, Err};
 ghost use Rattle.model.specs.Row.{timings};
-ghost use Rattle.store.specs.declared.fault.BufferRule.{BufferRule};
-ghost use Rattle.store.specs.Fault.{fault};
-ghost use Rattle.store.specs.InPlace.{rows_in};
+ghost use Rattle.store.specs.InPlace.{all_held};
 ghost use Rattle.store.specs.Answers.{answered};
 ghost use Rattle.store.specs.Judged.{judge_fault};
 
-use crate::fault::{BufferFault, BufferRule as Rule};
-use crate::rows::Rows;
+use crate::fault::{BufferFault, BufferRule};
+use crate::lists::Lists;
 use model::judge::Judge;
 use model::row::Row;
-use model::timing::Timing;
+use processor::asking::question;
 
-// Refuses the lowest processor whose rows get no.
-pub(crate) fn check_judge<J: Judge>(judge: &J, plan: &[Rows]) -> Result<(), BufferFault>
-    requires { length plan.now ≤ 8 }
-    ensures { result ≡ answered (judge_fault (J.Judge.accepts judge.now) 1 (map rows_in plan.now)) }
-{
-    for (i, rows) in plan.iter().enumerate() {
-        check_rows(judge, rows, i as u16 + 1)?;
+impl Lists<Row> {
+    // Refuses the lowest processor whose rows get no.
+    pub(crate) fn check_judge<J: Judge>(&self, judge: &J) -> Result<(), BufferFault>
+        ensures { result ≡ answered (judge_fault (J.Judge.accepts judge.now) 1 (all_held self.now)) }
+    {
+        for (i, rows) in self.as_slice().iter().enumerate() {
+            if !says_yes(judge, rows.as_slice()) {
+                return Err(BufferRule::Judge.at(i as u16 + 1));
+            }
+        }
+        Ok(())
     }
-    Ok(())
-}
-
-// Refuses the rows of one processor, counted from 1, if they get no.
-fn check_rows<J: Judge>(judge: &J, rows: &Rows, processor: u16) -> Result<(), BufferFault>
-    ensures { result ≡ (if J.Judge.accepts judge.now (timings (rows_in rows.now)) then Ok tt else Err (fault BufferRule.Judge processor)) }
-{
-    if !says_yes(judge, rows.all()) {
-        return Err(BufferFault {
-            rule: Rule::Judge,
-            place: processor,
-        });
-    }
-    Ok(())
 }
 
 fn says_yes<J: Judge>(judge: &J, rows: &[Row]) -> bool
     requires { length rows.now ≤ 32 }
     ensures { result ≡ J.Judge.accepts judge.now (timings rows.now) }
 {
-    let mut list = [Timing {
-        budget: 1,
-        deadline: 1,
-        period: 1,
-    }; 32];
-    for (i, row) in rows.iter().enumerate() {
-        list[i] = row.timing;
+    let mut list = question();
+    for row in rows {
+        list.push(row.timing);
     }
-    judge.judge(&list[0..rows.len()])
+    judge.judge(list.as_slice())
 }

@@ -7,9 +7,6 @@ ghost use Rattle.store.specs.Load.{Loaded};
 ghost use Rattle.store.specs.Loading.{Loads};
 
 use crate::fault::BufferFault as Fault;
-use crate::judging::check_judge;
-use crate::keys::check_keys;
-use crate::refill::refill_all;
 use crate::unpack::unpack;
 use board::board::Board;
 use model::judge::Judge;
@@ -22,11 +19,9 @@ pub fn load<J: Judge, P>(board: &mut Board<J, P>, image: &[u8]) -> Result<(), Fa
     ensures judge { board.new.judge ≡ board.old.judge }
     ensures rule { board.new.rule ≡ board.old.rule }
 {
-    let count = board.processors.len();
-    let unpacked = unpack(count, image)?;
-    let stored = &unpacked[0..count];
-    check_keys(stored)?;
-    check_judge(&board.judge, stored)?;
-    refill_all(&mut board.processors, stored);
+    let plan = unpack(board.processors.len(), image)?;
+    plan.check_keys()?;
+    plan.check_judge(&board.judge)?;
+    plan.refill(&mut board.processors);
     Ok(())
 }

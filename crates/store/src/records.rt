@@ -1,46 +1,43 @@
 // The rows that the records of an image say, by number and then along the chains.
-ghost use Rattle.std.specs.Prelude.{◌≡◌, ◌≤◌, map, length, take};
-ghost use Rattle.model.specs.declared.row.Row.{Row};
+ghost use Rattle.std.specs.Prelude.{◌≡◌, ◌≤◌, map, length};
 ghost use Rattle.std.specs.List.{AllByRecursion};
-ghost use Rattle.store.specs.Header.{image_length};
-ghost use Rattle.store.specs.InPlace.{numbers_of, rows_in};
+ghost use Rattle.processor.specs.Few.{held};
+ghost use Rattle.model.specs.declared.row.Row.{Row};
+ghost use Rattle.store.specs.InPlace.{all_held};
 ghost use Rattle.store.specs.Record.{entry_at};
-ghost use Rattle.store.specs.Records.{Read, ReadAll, Numbered, picked};
+ghost use Rattle.store.specs.Records.{Numbered, picked};
+ghost use Rattle.store.specs.Reading.{Read, ReadAll};
 
-use crate::chain::Chain;
-use crate::decode::entry_at;
-use crate::fault::{BufferFault, BufferRule as Rule};
-use crate::rows::Rows;
-use crate::shape::Shape;
+use crate::fault::{BufferFault, BufferRule};
+use crate::image::Image;
+use crate::lists::Lists;
 use model::row::{Kind, Row as BoardRow};
 use model::timing::Timing;
+use processor::few::Few;
 
-// The rows of all records, in the order of their numbers.
-pub(crate) fn read_rows(image: &[u8], shape: Shape) -> Result<[BoardRow; 256], BufferFault>
-    requires { length image.now ≡ image_length shape.processors shape.records }
-    ensures { ReadAll (entry_at shape.processors image.now) shape.records result }
-{
-    let mut rows = [filler(); 256];
-    for i in 0..shape.records {
-        rows[i] = read_row(image, shape, i + 1)?;
+impl Image<'_> {
+    // The rows of all records, in the order of their numbers.
+    pub(crate) fn rows(&self) -> Result<Few<BoardRow, 256>, BufferFault>
+        ensures { ReadAll (entry_at self.now.processors self.now.bytes.now) self.now.records result }
+    {
+        let mut rows = Few::new(filler());
+        for number in 1..self.records as u16 + 1 {
+            rows.push(self.row(number)?);
+        }
+        Ok(rows)
     }
-    Ok(rows)
-}
 
-fn read_row(image: &[u8], shape: Shape, number: usize) -> Result<BoardRow, BufferFault>
-    requires { (length image.now ≡ image_length shape.processors shape.records) × ((1 ≤ number) × (number ≤ shape.records)) }
-    ensures { Read (entry_at shape.processors image.now number) number result }
-{
-    match entry_at(image, 4 + 2 * shape.processors + 18 * (number - 1)).row() {
-        Some(row) => Ok(row),
-        None => Err(BufferFault {
-            rule: Rule::Record,
-            place: number as u16,
-        }),
+    fn row(&self, number: u16) -> Result<BoardRow, BufferFault>
+        requires { (1 ≤ number) × (number ≤ self.now.records) }
+        ensures { Read (entry_at self.now.processors self.now.bytes.now number) number result }
+    {
+        self.entry(number)
+            .row()
+            .ok_or(BufferRule::Record.at(number))
     }
 }
 
-// What stands where no row was read yet.
+// What stands where there is no row.
 pub(crate) fn filler() -> BoardRow {
     BoardRow {
         key: 0,
@@ -53,23 +50,26 @@ pub(crate) fn filler() -> BoardRow {
     }
 }
 
-// The rows along each chain.
-pub(crate) fn pick_all(chains: &[Chain], rows: &[BoardRow]) -> [Rows; 8]
-    requires { (length chains.now ≤ 8) × ((length rows.now ≡ 256) × (AllByRecursion (λ c. Numbered 256 (numbers_of c)) chains.now)) }
-    ensures { (((d : Row) → map rows_in (take (length chains.now) result) ≡ map (λ c. picked rows.now d (numbers_of c)) chains.now)) × (length result ≡ 8) }
-{
-    let mut picked = [Rows::none(filler()); 8];
-    for i in 0..chains.len() {
-        picked[i] = pick(chains[i].all(), rows);
+impl Lists<u16> {
+    // The rows along each chain.
+    pub(crate) fn pick(&self, rows: &[BoardRow]) -> Lists<BoardRow>
+        requires { AllByRecursion (Numbered (length rows.now)) (all_held self.now) }
+        ensures along { (d : Row) → all_held result ≡ map (picked rows.now d) (all_held self.now) }
+        ensures count { result.count ≡ self.now.count }
+    {
+        let mut picked = Lists::new(filler());
+        for chain in self.as_slice() {
+            picked.push(pick(chain.as_slice(), rows));
+        }
+        picked
     }
-    picked
 }
 
-fn pick(numbers: &[u16], rows: &[BoardRow]) -> Rows
-    requires { (length numbers.now ≤ 32) × ((length rows.now ≡ 256) × (Numbered 256 numbers.now)) }
-    ensures { (d : Row) → rows_in result ≡ picked rows.now d numbers.now }
+fn pick(numbers: &[u16], rows: &[BoardRow]) -> Few<BoardRow, 32>
+    requires { (length numbers.now ≤ 32) × (Numbered (length rows.now) numbers.now) }
+    ensures { (d : Row) → held result ≡ picked rows.now d numbers.now }
 {
-    let mut picked = Rows::none(filler());
+    let mut picked = Few::new(filler());
     for number in numbers {
         picked.push(rows[*number as usize - 1]);
     }

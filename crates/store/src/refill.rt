@@ -1,19 +1,23 @@
 // The board's processors with other rows, in the memory that they have.
 ghost use Rattle.std.specs.Prelude.{◌≡◌, ◌≤◌, map, length, vec_len};
 ghost use Rattle.processor.specs.Rows.{rows_of};
-ghost use Rattle.store.specs.InPlace.{rows_in};
+ghost use Rattle.store.specs.InPlace.{all_held};
 
-use crate::rows::Rows;
+use crate::lists::Lists;
 use model::row::Row;
 use processor::rows::Processor;
 
-pub(crate) fn refill_all(processors: &mut Vec<Processor>, plan: &[Rows])
-    requires { length plan.now ≡ vec_len processors.old }
-    ensures after { map rows_of processors.new.items ≡ map rows_in plan.now }
-    ensures count { vec_len processors.new ≡ vec_len processors.old }
-{
-    for i in 0..plan.len() {
-        refill(&mut processors[i], plan[i].all());
+impl Lists<Row> {
+    // Gives each processor its rows.
+    pub(crate) fn refill(&self, processors: &mut Vec<Processor>)
+        requires { self.now.count ≡ vec_len processors.old }
+        ensures after { map rows_of processors.new.items ≡ all_held self.now }
+        ensures count { vec_len processors.new ≡ vec_len processors.old }
+    {
+        // By index: of what `iter_mut().zip(..)` lends out, a proof knows nothing afterwards.
+        for (i, rows) in self.as_slice().iter().enumerate() {
+            refill(&mut processors[i], rows.as_slice());
+        }
     }
 }
 
@@ -22,6 +26,7 @@ fn refill(processor: &mut Processor, rows: &[Row])
     ensures { rows_of processor.new ≡ rows.now }
 {
     processor.rows.clear();
+    // One by one: `extend_from_slice` may ask for memory.
     for row in rows {
         processor.rows.push_reserved(*row);
     }

@@ -1,20 +1,20 @@
 // The rows that an image says, by its format: header, then chains, then records.
 ghost use Rattle.std.specs.Prelude.{◌≤◌};
-ghost use Rattle.store.specs.Entries.{entries, Unpacked};
+ghost use Rattle.store.specs.Entries.{entries};
+ghost use Rattle.store.specs.Unpacked.{Unpacked};
 
-use crate::chains::follow_all;
 use crate::fault::BufferFault;
-use crate::records::{pick_all, read_rows};
-use crate::rows::Rows;
-use crate::shape::Shape;
+use crate::image::Image;
+use crate::lists::Lists;
+use model::row::Row;
 
-// The rows of each of so many processors, the first of eight.
-pub(crate) fn unpack(processors: usize, image: &[u8]) -> Result<[Rows; 8], BufferFault>
+// The rows of each of so many processors.
+pub(crate) fn unpack(processors: usize, bytes: &[u8]) -> Result<Lists<Row>, BufferFault>
     requires { processors ≤ 8 }
-    ensures { Unpacked processors (entries processors image.now) result }
+    ensures { Unpacked processors (entries processors bytes.now) result }
 {
-    let shape = Shape::read(processors, image)?;
-    let chains = follow_all(image, shape)?;
-    let rows = read_rows(image, shape)?;
-    Ok(pick_all(&chains[0..processors], &rows))
+    let image = Image::read(processors, bytes)?;
+    let chains = image.chains()?;
+    let rows = image.rows()?;
+    Ok(chains.pick(rows.as_slice()))
 }

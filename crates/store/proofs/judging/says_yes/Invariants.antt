@@ -1,6 +1,7 @@
-use Rattle.std.proofs.Common.{◌≡◌, length, take}
+use Rattle.std.proofs.Common.{◌≡◌, take}
 use Rattle.model.specs.Row.{timings}
+use Rattle.processor.specs.Few.{held}
 use Rattle.store.proofs.judging.says_yes.Given as goal
 
-abbrev pub invariant-loop-i : goal.invariant-loop-i
-invariant-loop-i g l = (length l.list ≡ 32) × (take l.i l.list ≡ timings (take l.i l.rows))
+abbrev pub invariant-loop-row : goal.invariant-loop-row
+invariant-loop-row g l = held l.list ≡ timings (take l.row-index l.rows)

@@ -1,18 +1,9 @@
-use Rattle.std.proofs.Common.{arith}
-use Rattle.std.proofs.lemmas.List.{at_drop_all}
+use Rattle.std.proofs.Common.{refl, rules, ap, ◌+◌}
+use Rattle.std.proofs.lemmas.List.Recursion.{is_sum_by}
+use Rattle.model.specs.Row.{due}
 use Rattle.store.specs.Keys.{stretch}
-use Rattle.store.proofs.Drops.{left_more}
-use Rattle.store.proofs.Pieces.{stretch_le}
+use Rattle.store.proofs.Pieces.{stretch_due}
 use Rattle.store.proofs.keys.stretch_of.Goals as goal
 
-pub overflow_add-ticks : goal.overflow_add-ticks
-overflow_add-ticks c = omega (arith, stretch_le c.row-item.result)
-
-pub loop-row-preserved : goal.loop-row-preserved
-loop-row-preserved c = (
-  omega (arith, stretch_le c.row-item.result),
-  omega (arith, left_more stretch c.args.rows.now c.loop-row.row-index c.row-item.result (omega arith) c.row-item.is),
-)
-
 pub returns : goal.returns
-returns c = omega (arith, at_drop_all stretch c.args.rows.now c.loop-row.row-index (omega arith))
+returns c = search (rules, is_sum_by stretch due refl (λ row rows. ap (λ n. n + stretch rows) (stretch_due row)))

@@ -1,34 +1,38 @@
-use Rattle.std.proofs.Common.{arith}
+use Rattle.std.proofs.Common.{map, length, sym, ap, ◌∙◌, subst}
+use Rattle.std.specs.List.{AllByRecursion}
 use Rattle.std.proofs.lemmas.Result.{err_from_is_err_and}
+use Rattle.processor.specs.Few.{held}
+use Rattle.store.specs.InPlace.{all_held}
 use Rattle.store.specs.Chains.{head_at}
 use Rattle.store.specs.Record.{next_at}
-use Rattle.store.proofs.Unpacks.{entries_refused, entries_read, pick_asks}
+use Rattle.store.specs.Records.{Numbered, picked}
+use Rattle.store.proofs.Reaches.{chains_numbered}
+use Rattle.store.proofs.Unpacks.{entries_refused, entries_unread, entries_read}
 use Rattle.store.proofs.unpack.unpack.Goals as goal
 
 pub returns-in_err-chains : goal.returns-in_err-chains
 returns-in_err-chains c =
     let p = err_from_is_err_and c.from_residual-in_err-chains.result c.from_residual-in_err-chains.ensures.1 in
-    let s = c.in_ok-shape.ensures in
-    rw (p.1, p.2)
-    (entries_refused c.args.processors c.args.image.now s.0 c.in_ok-shape.shape.processors c.in_ok-shape.shape.records
-    _ s.1 s.2 c.in_err-chains.ensures)
+    rw (p.1, p.2) (entries_refused c.args.processors c.args.bytes.now c.in_ok-image.image c.in_ok-image.ensures _ c.in_err-chains.ensures)
 
-pub pick_all-requires : goal.pick_all-requires
-pick_all-requires c =
-    let s = c.in_ok-shape.ensures in
-    let ch = c.in_ok-chains.ensures in
-    let asks =
-    pick_asks (head_at c.args.image.now) (next_at c.in_ok-shape.shape.processors c.args.image.now) c.args.processors
-    c.in_ok-shape.shape.processors c.in_ok-shape.shape.records c.in_ok-chains.chains s.1 c.requires ch.1 (omega arith) ch.0 in
-    (asks.0, (c.in_ok-rows.ensures.1, asks.1))
+pub returns-in_err-rows : goal.returns-in_err-rows
+returns-in_err-rows c =
+    let p = err_from_is_err_and c.from_residual-in_err-rows.result c.from_residual-in_err-rows.ensures.1 in
+    rw (p.1, p.2)
+    (entries_unread c.args.processors c.args.bytes.now c.in_ok-image.image c.in_ok-image.ensures (all_held c.in_ok-chains.chains)
+    c.in_ok-chains.ensures.0 _ c.in_err-rows.ensures)
+
+pub pick-requires : goal.pick-requires
+pick-requires c =
+    let i = c.in_ok-image.image in
+    let rows = ap length c.as_slice.ensures ∙ c.in_ok-rows.ensures.1 in
+    subst (λ r. AllByRecursion (Numbered r) (all_held c.in_ok-chains.chains)) (sym rows)
+    (chains_numbered (head_at i.bytes.now) (next_at i.processors i.bytes.now) i.processors i.records (all_held c.in_ok-chains.chains) c.in_ok-chains.ensures.0)
 
 pub returns : goal.returns
-returns c =
-    let s = c.in_ok-shape.ensures in
-    let ch = c.in_ok-chains.ensures in
-    let rs = c.in_ok-rows.ensures in (
-      entries_read c.args.processors c.args.image.now s.0 c.in_ok-shape.shape.processors c.in_ok-shape.shape.records
-          c.in_ok-chains.chains c.in_ok-rows.rows c.pick_all.result s.1 s.2 (omega (arith, ch.1, c.requires)) ch.0 rs.0 rs.2
-          c.pick_all.ensures.0,
-      c.pick_all.ensures.1,
-    )
+returns c = (
+  entries_read c.args.processors c.args.bytes.now c.in_ok-image.image c.in_ok-image.ensures (all_held c.in_ok-chains.chains)
+      c.in_ok-chains.ensures.0 (held c.in_ok-rows.rows) (all_held c.pick.result) c.in_ok-rows.ensures.0 c.in_ok-rows.ensures.2
+      (λ d. c.pick.ensures.along d ∙ ap (λ r. map (picked r d) (all_held c.in_ok-chains.chains)) c.as_slice.ensures),
+  c.pick.ensures.count ∙ (c.in_ok-chains.ensures.1 ∙ c.in_ok-image.ensures.2),
+)

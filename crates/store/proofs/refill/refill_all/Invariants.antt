@@ -1,9 +1,0 @@
-use Rattle.std.proofs.Common.{◌≡◌, map, take, vec_items, vec_len}
-use Rattle.processor.specs.Rows.{rows_of}
-use Rattle.store.specs.InPlace.{rows_in}
-use Rattle.store.proofs.refill.refill_all.Given as goal
-
-abbrev pub invariant-loop-i : goal.invariant-loop-i
-invariant-loop-i l =
-    (vec_len l.processors ≡ vec_len l.initial.processors)
-    × (map rows_of (take l.i (vec_items l.processors)) ≡ map rows_in (take l.i l.plan))

@@ -1,0 +1,28 @@
+-- The rows of a key, in place, and the lowest key. Assumes nothing.
+use Rattle.std.specs.Prelude.{◌≡◌, ℕ, true, false, List, [], ◌∷◌, map, filter, min, length, Some, None, Ok, Err, Option, Result, nat_le}
+use Rattle.model.specs.declared.row.Row.{Row}
+use Rattle.processor.specs.declared.few.Few.{Few}
+use Rattle.processor.specs.Few.{held}
+use Rattle.store.specs.declared.keys.Twice.{Twice}
+use Rattle.store.specs.Keys.{apart, pieces, bad_key}
+use Rattle.store.specs.Loading.{all_of}
+use Rattle.std.specs.List.{reduce}
+
+-- what there is, as a list
+abbrev pub as_list : Option Row → List Row
+as_list None = []
+as_list (Some row) = row ∷ []
+
+-- the one row that there may be, if there are no more
+abbrev pub OnlyOne : List Row → Result (Option Row) Twice → Type 0
+OnlyOne rows (Ok found) = rows ≡ as_list found
+OnlyOne rows (Err e) = nat_le (length rows) 1 ≡ false
+
+-- the rows of a key if they are on different processors
+abbrev pub Gathered : ℕ → List (List Row) → Result (Few Row 32) Twice → Type 0
+Gathered key plan (Ok found) = (apart key plan ≡ true) × (held found ≡ pieces key plan)
+Gathered key plan (Err e) = apart key plan ≡ false
+
+-- the lowest key whose rows are no reservation
+abbrev pub lowest_key : List (List Row) → Option ℕ
+lowest_key plan = reduce min (filter (bad_key plan) (map (λ row. row.key) (all_of plan)))

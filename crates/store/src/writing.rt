@@ -1,0 +1,65 @@
+// The parts of an image, one after the other into a buffer.
+ghost use Rattle.std.specs.Prelude.{◌≡◌, ◌+◌, ◌*◌, ◌≤◌, length, vec_len};
+ghost use Rattle.board.specs.Plan.{plan};
+ghost use Rattle.store.specs.Image.{chain_bytes, records_bytes, heads_bytes, row_count};
+ghost use Rattle.store.specs.Written.{Wrote};
+
+use crate::encode::{first_of, record, two};
+use crate::writer::Writer;
+use board::board::Board;
+use model::row::Row;
+
+impl Writer<'_> {
+    // Writes bytes, and moves on.
+    pub(crate) fn put(&mut self, bytes: &[u8])
+        requires { self.old.at + length bytes.now ≤ length self.old.buffer.now }
+        ensures same_reference { self.new.buffer.ghost_name ≡ self.old.buffer.ghost_name }
+        ensures wrote { Wrote self.old self.new bytes.now }
+    {
+        let end = self.at + bytes.len();
+        self.buffer[self.at..end].copy_from_slice(bytes);
+        self.at = end;
+    }
+
+    // For each processor the number of its first record.
+    pub(crate) fn put_heads<J, P>(&mut self, board: &Board<J, P>)
+        requires { self.old.at + 2 * vec_len board.now.processors ≤ length self.old.buffer.now }
+        ensures same_reference { self.new.buffer.ghost_name ≡ self.old.buffer.ghost_name }
+        ensures wrote { Wrote self.old self.new (heads_bytes 1 (plan board.now)) }
+    {
+        let mut number = 1;
+        for p in board.processors.as_slice() {
+            let count = p.rows.len();
+            self.put(&two(first_of(number, count)));
+            number += count as u16;
+        }
+    }
+
+    // The records of all processors' rows, numbered from 1 on.
+    pub(crate) fn put_records<J, P>(&mut self, board: &Board<J, P>)
+        requires { self.old.at + 18 * row_count (plan board.now) ≤ length self.old.buffer.now }
+        ensures same_reference { self.new.buffer.ghost_name ≡ self.old.buffer.ghost_name }
+        ensures wrote { Wrote self.old self.new (records_bytes 1 (plan board.now)) }
+    {
+        let mut number = 1;
+        for p in board.processors.as_slice() {
+            let rows = p.rows.as_slice();
+            self.put_chain(number, rows);
+            number += rows.len() as u16;
+        }
+    }
+
+    // The records of one processor's rows, numbered from a number on.
+    fn put_chain(&mut self, from: u16, rows: &[Row])
+        requires room { self.old.at + 18 * length rows.now ≤ length self.old.buffer.now }
+        requires few { from + length rows.now ≤ 65535 }
+        ensures same_reference { self.new.buffer.ghost_name ≡ self.old.buffer.ghost_name }
+        ensures wrote { Wrote self.old self.new (chain_bytes from rows.now) }
+    {
+        for (i, row) in rows.iter().enumerate() {
+            let number = from + i as u16;
+            let next = first_of(number + 1, rows.len() - i - 1);
+            self.put(&record(next, row));
+        }
+    }
+}
