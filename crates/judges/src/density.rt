@@ -57,9 +57,5 @@ fn densities(list: &[Timing]) -> u64
     requires { length list.now ≤ 32 }
     ensures { result ≡ densities scale list.now }
 {
-    let mut sum = 0;
-    for x in list {
-        sum += x.density();
-    }
-    sum
+    list.iter().map(Timing::density).sum()
 }

@@ -1,13 +1,10 @@
-use Rattle.std.proofs.Common.{arith}
+use Rattle.std.proofs.Common.{◌≡◌, sym, ◌∙◌, rules, sum_by}
 use Rattle.model.specs.Scale.{scale}
-use Rattle.model.specs.Share.{densities}
-use Rattle.model.proofs.Bounds.{density_le}
-use Rattle.judges.proofs.Walk.{left_more, left_none}
+use Rattle.model.specs.Share.{density}
+use Rattle.judges.proofs.Sums.{sum_by-density}
 use Rattle.judges.proofs.density.densities.Goals as goal
 
-pub loop-x-preserved : goal.loop-x-preserved
-loop-x-preserved c =
-    omega (arith, left_more (densities scale) c.args.list.now c.loop-x.x-index c.x-item.result c.loop-x-test.true c.x-item.is, density_le scale c.x-item.result)
-
 pub returns : goal.returns
-returns c = omega (arith, left_none (densities scale) c.args.list.now c.loop-x.x-index c.loop-x-test.false)
+returns c =
+    let summed : c.sum.result ≡ sum_by (density scale) c.args.list.now = search rules in
+    summed ∙ sym (sum_by-density scale c.args.list.now)
