@@ -25,13 +25,12 @@ impl Room {
         ensures { result.ticks ≡ min self.ticks (free / (scale * by)) }
     {
         let each = SCALE * by;
-        if self.ticks as u64 * each <= free {
-            self
+        let ticks = if self.ticks as u64 * each <= free {
+            self.ticks
         } else {
-            Room {
-                ticks: (free / each) as u32,
-            }
-        }
+            (free / each) as u32
+        };
+        Room { ticks }
     }
 }
 
@@ -52,11 +51,11 @@ impl Tail<'_> {
     {
         let fixed = self.fixed_room(cap);
         let slacks = self.slacks();
-        let mut room = 0;
-        for _ in 0..=again {
-            room = self.refined(&slacks, fixed, room).ticks;
+        let mut room = self.refined(&slacks, fixed, 0);
+        for _ in 0..again {
+            room = self.refined(&slacks, fixed, room.ticks);
         }
-        room
+        room.ticks
     }
 
     // What no start value changes.
@@ -81,7 +80,7 @@ impl Tail<'_> {
         ensures { result.ticks ≡ within_steps scale self.now.curve.steps self.now.curve.list.now self.now.period self.now.curve.steps room.ticks }
     {
         let mut room = room;
-        for turns in 1..=self.curve.steps as u32 {
+        for turns in 1..self.curve.steps as u32 + 1 {
             let end = turns * self.period;
             let time = SCALE * end as u64;
             let free = time.saturating_sub(self.curve.demand(end + spare));
@@ -137,8 +136,12 @@ impl Tail<'_> {
     fn slacks(&self) -> [[u64; 10]; 31]
         ensures { Table scale self.now.curve.steps self.now.curve.list.now (length self.now.curve.list.now) result }
     {
-        let list = self.curve.list;
-        array::from_fn(|i| list.get(i).map_or([0; 10], |x| self.curve.slacks(x)))
+        let mut rows = [[0; 10]; 31];
+        // By index: through `iter_mut().zip(..)` no proof knows what has been written.
+        for (i, x) in self.curve.list.iter().enumerate() {
+            rows[i] = self.curve.slacks(x);
+        }
+        rows
     }
 }
 
