@@ -10,8 +10,7 @@ deadlines_min : (l : List Timing) (a c : ℕ) → before_deadlines l (min a c) �
 deadlines_min [] a c = refl
 deadlines_min (x ∷ l) a c = omega (arith, deadlines_min l a c)
 
--- taken from the front
-pub fold-before_deadlines : (l : List Timing) (c : ℕ) → fold min c (map before_deadline l) ≡ before_deadlines l c
+fold-before_deadlines : (l : List Timing) (c : ℕ) → fold min c (map before_deadline l) ≡ before_deadlines l c
 fold-before_deadlines [] c = refl
 fold-before_deadlines (x ∷ l) c =
     fold-before_deadlines l (min c (x.deadline - 1))
@@ -20,22 +19,9 @@ fold-before_deadlines (x ∷ l) c =
     min_flip : (a b : ℕ) → min a b ≡ min b a
     min_flip a b = omega arith
 
--- one more of the tail's periods is passed
-pub step_passed : (s n : ℕ) (l : List Timing) (t c k least spare demand free next : ℕ) → least ≡ within_steps s n l t k c
-    → spare ≡ spare_budget s l t → demand ≡ approximates s n l ((k + 1) * t + spare) → free ≡ s * ((k + 1) * t) - demand
-    → next ≡ min least (free / (s * (k + 1))) → next ≡ within_steps s n l t (k + 1) c
-step_passed s n l t c k least spare demand free next before left due is taken =
-    let end = (k + 1) * t in
-    let room : free / (s * (k + 1)) ≡ step_room s n l t (k + 1) =
-    ap (λ f. f / (s * (k + 1))) (is ∙ ap (λ a. s * end - a) (due ∙ ap (λ m. approximates s n l (end + m)) left)) in
-    let step : next ≡ within_steps s n l t (suc k) c = omega (arith, ap (step_room s n l t) (add-one k)) in
-    step ∙ ap (λ m. within_steps s n l t m c) (sym (add-one k))
-
--- the times that are looked at
-pub step_soon : (k n t spare : ℕ) → k < n → n ≤ 9 → t ≤ 100000 → spare ≤ t → (k + 1) * t + spare ≤ 1000000
-step_soon k n t spare less few short left =
-    let nine : k + 1 ≤ 9 = omega arith in
-    omega (arith, mul-le-mul_right t nine)
+-- the deadlines taken from the front
+pub deadlines_folded : (l : List Timing) (c r : ℕ) → r ≡ fold min c (map before_deadline l) → r ≡ before_deadlines l c
+deadlines_folded l c r is = is ∙ fold-before_deadlines l c
 
 module _ (s n : ℕ) (l : List Timing) (t b : ℕ) where
   points_min : (x : Timing) (k a c : ℕ) → within_points s n l t b x k (min a c) ≡ min a (within_points s n l t b x k c)

@@ -166,6 +166,7 @@ impl Curve<'_> {
 }
 
 // The longest tail that ends before every deadline, and at most `room`.
+#[tactic(auto, using(crate::proofs::AllowanceWalk::deadlines_folded))]
 fn before_deadlines(list: &[Timing], room: u32) -> u32
     ensures { result ≡ before_deadlines list.now room }
 {

@@ -39,6 +39,7 @@ impl<'a> Curve<'a> {
     }
 
     // The sum of the shares.
+    #[tactic(auto, using(crate::proofs::Sums::shares_summed))]
     pub(crate) fn shares(&self) -> u64
         ensures { result ≡ shares scale self.now.list.now }
     {

@@ -1,7 +1,9 @@
 // The demand judge's yes: the shares fit a processor, and at every check-point the approximate demand fits the time.
 ghost use Rattle.std.specs.Prelude.{◌≡◌, suc};
 ghost use Rattle.model.specs.Scale.{scale};
-ghost use Rattle.judges.specs.Demand.{fits_points, fits_rows, demand_yes};
+ghost use Rattle.std.specs.List.{list_all, range_with_len};
+ghost use Rattle.judges.specs.Approximate.{point};
+ghost use Rattle.judges.specs.Demand.{fits, demand_yes};
 ghost use Rattle.std.proofs.Common.{arith};
 ghost use Rattle.judges.specs.Judged.{demand_sound, demand_dense, demand_fewer, yes_parts};
 
@@ -22,6 +24,7 @@ impl Judge for Demand {
 
     ghost few = { λ j l e. (yes_parts scale j.steps l e).0 };
 
+    #[tactic(auto, using(crate::proofs::Tested::all_tested))]
     fn judge(&self, list: &[Timing]) -> bool {
         if list.len() > 32 {
             return false;
@@ -34,14 +37,14 @@ impl Judge for Demand {
 impl Curve<'_> {
     // Whether the demand fits at the check-points of each of these rows.
     fn fits_rows(&self, rows: &[Timing]) -> bool
-        ensures { result ≡ fits_rows scale self.now.steps self.now.list.now rows.now }
+        ensures { result ≡ list_all (λ x. list_all (λ k. fits scale self.now.steps self.now.list.now (point x k)) (range_with_len 0 (suc self.now.steps))) rows.now }
     {
         rows.iter().all(|x| self.fits_points(x))
     }
 
     // Whether it fits at those of one row, which has one more than there are retained steps.
     fn fits_points(&self, x: &Timing) -> bool
-        ensures { result ≡ fits_points scale self.now.steps self.now.list.now x.now (suc self.now.steps) }
+        ensures { result ≡ list_all (λ k. fits scale self.now.steps self.now.list.now (point x.now k)) (range_with_len 0 (suc self.now.steps)) }
     {
         (0..self.steps + 1).all(|k| self.fits(point(x, k)))
     }

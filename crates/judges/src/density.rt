@@ -53,6 +53,7 @@ impl SizingJudge for Density {
 }
 
 // The sum of the densities: at most 32 scales, so nothing wraps.
+#[tactic(auto, using(crate::proofs::Sums::densities_summed))]
 fn densities(list: &[Timing]) -> u64
     requires { length list.now ≤ 32 }
     ensures { result ≡ densities scale list.now }

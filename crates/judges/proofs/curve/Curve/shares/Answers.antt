@@ -1,18 +1,10 @@
-use Rattle.std.proofs.Common.{◌≡◌, ℕ, ◌≤◌, ◌*◌, rules, arith, sum, take, length, ap, ◌∙◌}
+use Rattle.std.proofs.Common.{◌*◌, ◌≤◌, length, rules, sum, take}
 use Rattle.model.specs.Scale.{scale}
-use Rattle.model.specs.Share.{shares}
-use Rattle.judges.proofs.Sums.{sum-share, shares_le}
+use Rattle.judges.proofs.Sums.{slopes_le}
 use Rattle.judges.proofs.curve.Curve.shares.Goals as goal
 
 pub sum-requires-clause-fits : goal.sum-requires-clause-fits
 sum-requires-clause-fits c =
-    let l = c.args.self.now.list.now in
-    let total : sum (take (length l) c.args.self.now.slopes) ≡ shares scale l = ap sum c.args.self.now.paired ∙ sum-share scale l in
-    let room : sum (take (length l) c.args.self.now.slopes) ≤ 32 * scale = omega (arith, shares_le scale l) in
+    let self = c.args.self.now in
+    let room : sum (take (length self.list.now) self.slopes) ≤ scale * 32 = slopes_le scale self.list.now _ self.paired self.few in
     search rules
-
-pub returns : goal.returns
-returns c =
-    let l = c.args.self.now.list.now in
-    let e : c.sum.result ≡ sum (take (length l) c.args.self.now.slopes) = search rules in
-    e ∙ ap sum c.args.self.now.paired ∙ sum-share scale l
