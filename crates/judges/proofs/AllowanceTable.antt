@@ -1,5 +1,5 @@
 -- Filling the table of slacks, place by place and row by row. Assumes nothing.
-use Rattle.std.proofs.Common.{◌≡◌, ℕ, suc, ◌+◌, ◌<◌, ◌≢◌, List, [], length, get_or, set, sym, ap, ◌∙◌, inl, inr, arith, below_more}
+use Rattle.std.proofs.Common.{◌≡◌, ℕ, suc, ◌+◌, ◌<◌, ◌≢◌, List, [], ◌∷◌, length, get_or, set, refl, sym, ap, ◌∙◌, inl, inr, arith, below_more}
 use Rattle.std.proofs.lemmas.List.{get_or_default, get_or-set_same, get_or-set_other}
 use Rattle.std.proofs.lemmas.Bool.{cases_eq}
 use Rattle.model.specs.declared.timing.Timing.{Timing}
@@ -27,3 +27,14 @@ row_filled s n l i x rows row before room at inside is j y h there k few =
           ∙ ap (λ z. slack s n l (point z k)) one
       | inr other ↦ ap (λ r. get_or r k 0) (get_or-set_other rows i j row [] other) ∙ before j y (omega arith) there k few
     ]
+
+-- the slacks of these timings, a row for each
+abbrev pub Rows : ℕ → ℕ → List Timing → List Timing → List (List ℕ) → Type 0
+Rows s n l xs rows = (i : ℕ) (x : Timing) → i < length xs → x ≡ get_or xs i x → Slacks s n l x (suc n) (get_or rows i [])
+
+-- the first of them, and the others
+pub first_row : (s n : ℕ) (l : List Timing) (x : Timing) (row : List ℕ) (xs rest : List Timing) (rows more : List (List ℕ))
+    → xs ≡ x ∷ rest → rows ≡ row ∷ more → Rows s n l xs rows → Slacks s n l x (suc n) row × Rows s n l rest more
+first_row s n l x row xs rest rows more e f all =
+    let here : Rows s n l (x ∷ rest) (row ∷ more) = rw (e, f) at all in
+    (here 0 x (omega arith) refl, λ i y h at. here (suc i) y (omega arith) at)

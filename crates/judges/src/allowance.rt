@@ -1,191 +1,180 @@
 // How long a tail the demand judge offers. Times stay within a million ticks and tails within a period, so that a slack is at most
 // SCALE * 10^6, and no product reaches 3 * 10^17: nothing leaves 64 bits.
-ghost use Rattle.std.specs.Prelude.{◌≡◌, suc, ◌*◌, ◌/◌, ◌<◌, ◌≤◌, min, map, length};
+ghost use Rattle.std.specs.Prelude.{◌≡◌, suc, ◌*◌, ◌/◌, ◌<◌, ◌≤◌, min, length};
 ghost use Rattle.model.specs.Scale.{scale};
-ghost use Rattle.model.specs.Share.{share, shares};
-ghost use Rattle.judges.specs.Allowance.{spare_budget, before_deadline, before_deadlines, within_steps, slack, point_room, within_rows, fixed_room, demand_allowance};
+ghost use Rattle.judges.specs.Allowance.{spare_budget, before_deadline, before_deadlines, within_steps, slack, point_room, within_points, within_rows, fixed_room, refinements};
+ghost use Rattle.judges.specs.Approximate.{point};
 ghost use Rattle.judges.specs.Table.{Slacks, Table};
 
-use crate::curve::{approximates, point, shares};
-use model::limits::LONGEST_PERIOD;
+use crate::curve::{Curve, point};
 use model::share::SCALE;
 use model::timing::Timing;
+use std::array;
 
-// The longest tail of this period that is offered, at most `cap`.
-pub(crate) fn allowance(list: &[Timing], steps: u8, refinements: u8, period: u32, cap: u32) -> u32
-    requires stepped { steps ≤ 9 }
-    requires refined { refinements ≤ 5 }
-    ensures { result ≡ demand_allowance scale steps refinements list.now period cap }
-{
-    if cap == 0 || period == 0 || period > LONGEST_PERIOD || list.len() > 31 {
-        return 0;
-    }
-    let (each, sum) = shares(list);
-    let slopes = &each[..list.len()];
-    let fixed = fixed_room(list, slopes, sum, steps, period, cap);
-    let table = table(list, slopes, steps);
-    let mut room = 0;
-    for _ in 0..refinements + 1 {
-        room = refined(list, &table, steps, period as u64, room, fixed);
-    }
-    room as u32
+// How long a tail may be: no longer than any period.
+#[derive(Clone, Copy)]
+struct Room {
+    ticks: u32,
+    ghost short: { ticks ≤ 100000 },
 }
 
-// What no start value changes.
-fn fixed_room(list: &[Timing], slopes: &[u32], sum: u64, steps: u8, period: u32, cap: u32) -> u64
-    requires few { length list.now ≤ 32 }
-    requires paired { slopes.now ≡ map (share scale) list.now }
-    requires summed { sum ≡ shares scale list.now }
-    requires stepped { steps ≤ 9 }
-    requires periodic { period ≤ 100000 }
-    ensures { result ≡ fixed_room scale steps list.now period cap }
-{
-    let spare = (SCALE.saturating_sub(sum) * period as u64 / SCALE) as u32;
-    let short = before_deadlines(list, cap.min(spare) as u64);
-    within_steps(list, slopes, steps, period, spare, short)
+impl Room {
+    // The smaller of this and what so much comes to, shared by so many: where it is this, a product tells so without a division.
+    fn least(self, free: u64, by: u64) -> Room
+        requires { (0 < by) × (by ≤ 2000000) }
+        ensures { result.ticks ≡ min self.ticks (free / (scale * by)) }
+    {
+        let each = SCALE * by;
+        let ticks = if self.ticks as u64 * each <= free {
+            self.ticks
+        } else {
+            (free / each) as u32
+        };
+        Room { ticks }
+    }
+}
+
+// A tail of some period that is to be sized beside a list.
+#[derive(Drop)]
+pub(crate) struct Tail<'a> {
+    pub(crate) curve: Curve<'a>,
+    pub(crate) period: u32,
+    ghost few: { length curve.list.now ≤ 31 },
+    ghost some: { 0 < period },
+    ghost short: { period ≤ 100000 },
+}
+
+impl Tail<'_> {
+    // The longest tail that is offered, at most `cap`: worked out from 0, and again so many times from the result before.
+    pub(crate) fn longest(&self, cap: u32, again: u8) -> u32
+        ensures { result ≡ refinements scale self.now.curve.steps self.now.curve.list.now self.now.period cap again }
+    {
+        let fixed = self.fixed_room(cap);
+        let slacks = self.slacks();
+        let mut room = self.refined(&slacks, fixed, 0);
+        for _ in 0..again {
+            room = self.refined(&slacks, fixed, room.ticks);
+        }
+        room.ticks
+    }
+
+    // What no start value changes.
+    fn fixed_room(&self, cap: u32) -> Room
+        ensures { result.ticks ≡ fixed_room scale self.now.curve.steps self.now.curve.list.now self.now.period cap }
+    {
+        let spare = self.spare();
+        let short = before_deadlines(self.curve.list, cap.min(spare));
+        self.within_steps(spare, Room { ticks: short })
+    }
+
+    // What the spare share leaves in a period.
+    fn spare(&self) -> u32
+        ensures { result ≡ spare_budget scale self.now.curve.list.now self.now.period }
+    {
+        (SCALE.saturating_sub(self.curve.shares()) * self.period as u64 / SCALE) as u32
+    }
+
+    // What is left at the ends of the tail's first periods, shared by its instances so far, and at most `room`.
+    fn within_steps(&self, spare: u32, room: Room) -> Room
+        requires { spare ≡ spare_budget scale self.now.curve.list.now self.now.period }
+        ensures { result.ticks ≡ within_steps scale self.now.curve.steps self.now.curve.list.now self.now.period self.now.curve.steps room.ticks }
+    {
+        let mut room = room;
+        for turns in 1..self.curve.steps as u32 + 1 {
+            let end = turns * self.period;
+            let time = SCALE * end as u64;
+            let free = time.saturating_sub(self.curve.demand(end + spare));
+            room = room.least(free, turns as u64);
+        }
+        room
+    }
+
+    // The longest tail that every check-point of every timing bears, if it is at least `start`, and at most `fixed`.
+    fn refined(&self, slacks: &[[u64; 10]; 31], fixed: Room, start: u32) -> Room
+        requires { Table scale self.now.curve.steps self.now.curve.list.now (length self.now.curve.list.now) slacks.now }
+        ensures { result.ticks ≡ within_rows scale self.now.curve.steps self.now.curve.list.now self.now.period start self.now.curve.list.now fixed.ticks }
+    {
+        let mut room = fixed;
+        for (x, row) in self.curve.list.iter().zip(slacks) {
+            room = self.within_points(x, row, room, start);
+        }
+        room
+    }
+
+    // The longest tail that every check-point of one timing bears, if it is at least `start`, and at most `room`.
+    fn within_points(&self, x: &Timing, row: &[u64; 10], room: Room, start: u32) -> Room
+        requires { Slacks scale self.now.curve.steps self.now.curve.list.now x.now (suc self.now.curve.steps) row.now }
+        ensures { result.ticks ≡ within_points scale self.now.curve.steps self.now.curve.list.now self.now.period start x.now (suc self.now.curve.steps) room.ticks }
+    {
+        let mut room = room;
+        for (k, free) in row[..=self.curve.steps as usize].iter().enumerate() {
+            room = self.point_room(point(x, k as u8), *free, room, start);
+        }
+        room
+    }
+
+    // The longest tail that check-point p bears, where so much is free, if it is at least `start`, and at most `room`.
+    fn point_room(&self, p: u32, free: u64, room: Room, start: u32) -> Room
+        requires soon { p ≤ 1000000 }
+        requires within { free ≤ scale * 1000000 }
+        ensures { result.ticks ≡ min room.ticks (point_room scale self.now.curve.steps self.now.period start p free) }
+    {
+        let steps = self.curve.steps as u64;
+        let period = self.period as u64;
+        let line = steps * period + start as u64;
+        let p = p as u64;
+        if line <= p {
+            let past = p - line;
+            let rest = (free * period).saturating_sub((period - 1) * past);
+            room.least(rest, (steps + 1) * period + past)
+        } else {
+            room.least(free, p.saturating_sub(start as u64) / period + 1)
+        }
+    }
+
+    // The slack at each check-point of each timing: no refinement works it out again.
+    fn slacks(&self) -> [[u64; 10]; 31]
+        ensures { Table scale self.now.curve.steps self.now.curve.list.now (length self.now.curve.list.now) result }
+    {
+        let mut rows = [[0; 10]; 31];
+        // By index: through `iter_mut().zip(..)` no proof knows what has been written.
+        for (i, x) in self.curve.list.iter().enumerate() {
+            rows[i] = self.curve.slacks(x);
+        }
+        rows
+    }
+}
+
+impl Curve<'_> {
+    // The slack at each check-point of a timing.
+    fn slacks(&self, x: &Timing) -> [u64; 10]
+        ensures { Slacks scale self.now.steps self.now.list.now x.now (suc self.now.steps) result }
+    {
+        array::from_fn(|k| self.slack_at(x, k))
+    }
+
+    // That at check-point k, and nothing past the last.
+    fn slack_at(&self, x: &Timing, k: usize) -> u64
+        ensures { k ≤ self.now.steps → result ≡ slack scale self.now.steps self.now.list.now (point x.now k) }
+    {
+        if k <= self.steps as usize {
+            self.slack(point(x, k as u8))
+        } else {
+            0
+        }
+    }
 }
 
 // The longest tail that ends before every deadline, and at most `room`.
-fn before_deadlines(list: &[Timing], room: u64) -> u64
+#[tactic(auto, using(crate::proofs::AllowanceWalk::deadlines_folded))]
+fn before_deadlines(list: &[Timing], room: u32) -> u32
     ensures { result ≡ before_deadlines list.now room }
 {
-    let mut least = room;
-    for x in list {
-        least = least.min(before_deadline(x));
-    }
-    least
+    list.iter().map(before_deadline).fold(room, u32::min)
 }
 
-fn before_deadline(x: &Timing) -> u64
+fn before_deadline(x: &Timing) -> u32
     ensures { result ≡ before_deadline x.now }
 {
-    (x.deadline - 1) as u64
-}
-
-// What is left at the ends of the tail's first periods, shared by its instances so far, and at most `room`.
-fn within_steps(
-    list: &[Timing],
-    slopes: &[u32],
-    steps: u8,
-    period: u32,
-    spare: u32,
-    room: u64,
-) -> u64
-    requires few { length list.now ≤ 32 }
-    requires paired { slopes.now ≡ map (share scale) list.now }
-    requires stepped { steps ≤ 9 }
-    requires periodic { period ≤ 100000 }
-    requires left { spare ≡ spare_budget scale list.now period }
-    ensures { result ≡ within_steps scale steps list.now period steps room }
-{
-    let mut least = room;
-    for k in 0..steps {
-        let turns = k as u32 + 1;
-        let end = turns * period;
-        let time = SCALE * end as u64;
-        let free = time.saturating_sub(approximates(list, slopes, steps, end + spare));
-        least = least.min(free / (SCALE * turns as u64));
-    }
-    least
-}
-
-// The longest tail that every check-point of every timing bears, if it is at least `start`, and at most `fixed`.
-fn refined(
-    list: &[Timing],
-    table: &[[u64; 10]; 31],
-    steps: u8,
-    period: u64,
-    start: u64,
-    fixed: u64,
-) -> u64
-    requires few { length list.now ≤ 31 }
-    requires slacks { Table scale steps list.now (length list.now) table.now }
-    requires stepped { steps ≤ 9 }
-    requires periodic { (0 < period) × (period ≤ 100000) }
-    requires started { start ≤ 100000 }
-    requires short { fixed ≤ 100000 }
-    ensures { result ≡ within_rows scale steps list.now period start list.now fixed }
-{
-    let mut room = fixed;
-    for (i, x) in list.iter().enumerate() {
-        for k in 0..steps + 1 {
-            let p = point(x, k) as u64;
-            room = point_room(steps, period, start, p, table[i][k as usize], room);
-        }
-    }
-    room
-}
-
-// What the list leaves unused up to t.
-fn slack(list: &[Timing], slopes: &[u32], steps: u8, t: u32) -> u64
-    requires few { length list.now ≤ 32 }
-    requires paired { slopes.now ≡ map (share scale) list.now }
-    requires stepped { steps ≤ 9 }
-    requires soon { t ≤ 1000000 }
-    ensures { result ≡ slack scale steps list.now t }
-{
-    (SCALE * t as u64).saturating_sub(approximates(list, slopes, steps, t))
-}
-
-// The slack at each check-point of a timing.
-fn slacks(list: &[Timing], slopes: &[u32], steps: u8, x: &Timing) -> [u64; 10]
-    requires few { length list.now ≤ 32 }
-    requires paired { slopes.now ≡ map (share scale) list.now }
-    requires stepped { steps ≤ 9 }
-    ensures { Slacks scale steps list.now x.now (suc steps) result }
-{
-    let mut row = [0; 10];
-    for k in 0..steps + 1 {
-        row[k as usize] = slack(list, slopes, steps, point(x, k));
-    }
-    row
-}
-
-// That of each timing: no refinement works a slack out again.
-fn table(list: &[Timing], slopes: &[u32], steps: u8) -> [[u64; 10]; 31]
-    requires few { length list.now ≤ 31 }
-    requires paired { slopes.now ≡ map (share scale) list.now }
-    requires stepped { steps ≤ 9 }
-    ensures { Table scale steps list.now (length list.now) result }
-{
-    let mut rows = [[0; 10]; 31];
-    for (i, x) in list.iter().enumerate() {
-        rows[i] = slacks(list, slopes, steps, x);
-    }
-    rows
-}
-
-// The longest tail that check-point p bears, where so much is free, if it is at least `start`, and at most `room`.
-fn point_room(steps: u8, period: u64, start: u64, p: u64, free: u64, room: u64) -> u64
-    requires stepped { steps ≤ 9 }
-    requires periodic { (0 < period) × (period ≤ 100000) }
-    requires started { start ≤ 100000 }
-    requires soon { p ≤ 1000000 }
-    requires within { free ≤ scale * 1000000 }
-    requires short { room ≤ 100000 }
-    ensures { result ≡ min room (point_room scale steps period start p free) }
-{
-    let steps = steps as u64;
-    let line = steps * period + start;
-    if line <= p {
-        let past = p - line;
-        let rest = (free * period).saturating_sub((period - 1) * past);
-        least(room, rest, (steps + 1) * period + past)
-    } else {
-        least(room, free, p.saturating_sub(start) / period + 1)
-    }
-}
-
-// The smaller of `room` and what so much comes to, shared by so many: where that is `room`, a product tells it without a division.
-fn least(room: u64, free: u64, by: u64) -> u64
-    requires short { room ≤ 100000 }
-    requires some { (0 < by) × (by ≤ 2000000) }
-    ensures { result ≡ min room (free / (scale * by)) }
-{
-    let each = SCALE * by;
-    if room * each <= free {
-        room
-    } else {
-        free / each
-    }
+    x.deadline - 1
 }

@@ -1,54 +1,92 @@
-// The demand curve in numbers. Demand never passes the time, so up to a million ticks one timing's approximate demand is below 2^40, and
-// that of 32 timings below 2^45.
-ghost use Rattle.std.specs.Prelude.{◌≡◌, ◌*◌, ◌≤◌, map, length, take};
+// The demand curve of a list in numbers. Demand never passes the time, so nothing leaves 64 bits.
+ghost use Rattle.std.specs.Prelude.{◌≡◌, ◌*◌, ◌≤◌, map, length, take, slice_get};
+ghost use Rattle.std.specs.Option.{option_map_or};
 ghost use Rattle.model.specs.Scale.{scale};
 ghost use Rattle.model.specs.Share.{share, shares};
 ghost use Rattle.model.specs.Demand.{exact};
 ghost use Rattle.judges.specs.Approximate.{point, approximate, approximates};
+ghost use Rattle.judges.specs.Allowance.{slack};
+ghost use Rattle.judges.specs.Demand.{fits};
 
 use model::share::SCALE;
 use model::timing::Timing;
+use std::array;
 
-// The share of each timing, in the order of the list, and their sum.
-pub(crate) fn shares(list: &[Timing]) -> ([u32; 32], u64)
-    requires { length list.now ≤ 32 }
-    ensures each { take (length list.now) result.0 ≡ map (share scale) list.now }
-    ensures sum { result.1 ≡ shares scale list.now }
-    ensures bound { result.1 ≤ 32 * scale }
-{
-    let mut each = [0; 32];
-    let mut sum = 0;
-    for (i, x) in list.iter().enumerate() {
-        let share = x.share();
-        each[i] = share as u32;
-        sum += share;
-    }
-    (each, sum)
+// The approximate demand of a list: exact for so many steps of each timing, and from there on a line.
+#[derive(Drop)]
+pub(crate) struct Curve<'a> {
+    pub(crate) list: &'a [Timing],
+    pub(crate) steps: u8,
+    // The slope of each timing's line is its share.
+    slopes: [u32; 32],
+    ghost few: { length list.now ≤ 32 },
+    ghost stepped: { steps ≤ 9 },
+    ghost paired: { take (length list.now) slopes ≡ map (share scale) list.now },
 }
 
-// The approximate demand of a list at t, where each timing's share is the slope of its line.
-pub(crate) fn approximates(list: &[Timing], slopes: &[u32], steps: u8, t: u32) -> u64
-    requires few { length list.now ≤ 32 }
-    requires paired { slopes.now ≡ map (share scale) list.now }
-    requires stepped { steps ≤ 9 }
-    requires soon { t ≤ 1000000 }
-    ensures value { result ≡ approximates scale steps list.now t }
-    ensures bound { result ≤ 32 * (scale * 1000000) }
-{
-    let mut sum = 0;
-    for (i, x) in list.iter().enumerate() {
-        sum += approximate(x, slopes[i], steps, t);
+impl<'a> Curve<'a> {
+    pub(crate) fn new(list: &'a [Timing], steps: u8) -> Curve<'a>
+        requires few { length list.now ≤ 32 }
+        requires stepped { steps ≤ 9 }
+        ensures list { result.list.now ≡ list.now }
+        ensures steps { result.steps ≡ steps }
+    {
+        Curve {
+            list,
+            steps,
+            slopes: array::from_fn(|i| share_at(list, i)),
+        }
     }
-    sum
+
+    // The sum of the shares.
+    #[tactic(auto, using(crate::proofs::Sums::shares_summed))]
+    pub(crate) fn shares(&self) -> u64
+        ensures { result ≡ shares scale self.now.list.now }
+    {
+        self.slopes[..self.list.len()]
+            .iter()
+            .map(|share| u64::from(*share))
+            .sum()
+    }
+
+    // The demand within t ticks.
+    pub(crate) fn demand(&self, t: u32) -> u64
+        ensures { result ≡ approximates scale self.now.steps self.now.list.now t }
+    {
+        let mut sum = 0;
+        for (x, slope) in self.list.iter().zip(&self.slopes) {
+            sum += approximate(x, *slope, self.steps, t);
+        }
+        sum
+    }
+
+    // Whether it fits t ticks.
+    pub(crate) fn fits(&self, t: u32) -> bool
+        ensures { result ≡ fits scale self.now.steps self.now.list.now t }
+    {
+        self.demand(t) <= SCALE * t as u64
+    }
+
+    // What it leaves unused of them.
+    pub(crate) fn slack(&self, t: u32) -> u64
+        ensures { result ≡ slack scale self.now.steps self.now.list.now t }
+    {
+        (SCALE * t as u64).saturating_sub(self.demand(t))
+    }
 }
 
-// That of one timing: exact before check-point `steps`, from there on the line.
+// The share of the timing at an index, and 0 past the last.
+fn share_at(list: &[Timing], i: usize) -> u32
+    ensures { result ≡ option_map_or (share scale) (slice_get list.now i) 0 }
+{
+    list.get(i).map_or(0, |x| x.share() as u32)
+}
+
+// The demand of one timing: exact before check-point `steps`, from there on the line.
 fn approximate(x: &Timing, slope: u32, steps: u8, t: u32) -> u64
     requires paired { slope ≡ share scale x.now }
     requires stepped { steps ≤ 9 }
-    requires soon { t ≤ 1000000 }
-    ensures value { result ≡ approximate scale steps x.now t }
-    ensures bound { result ≤ scale * 1000000 }
+    ensures { result ≡ approximate scale steps x.now t }
 {
     let last = point(x, steps);
     if t < last {
@@ -60,8 +98,7 @@ fn approximate(x: &Timing, slope: u32, steps: u8, t: u32) -> u64
 
 // The budgets that fall due within t ticks.
 fn exact(x: &Timing, t: u32) -> u32
-    ensures value { result ≡ exact x.now t }
-    ensures bound { result ≤ t }
+    ensures { result ≡ exact x.now t }
 {
     if t < x.deadline {
         0

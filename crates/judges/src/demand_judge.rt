@@ -1,12 +1,13 @@
 // The demand judge's yes: the shares fit a processor, and at every check-point the approximate demand fits the time.
-ghost use Rattle.std.specs.Prelude.{◌≡◌, suc, ◌≤◌, map, length};
+ghost use Rattle.std.specs.Prelude.{◌≡◌, suc};
 ghost use Rattle.model.specs.Scale.{scale};
-ghost use Rattle.model.specs.Share.{share};
-ghost use Rattle.judges.specs.Demand.{fits_points, fits_rows, demand_yes};
+ghost use Rattle.std.specs.List.{list_all, range_with_len};
+ghost use Rattle.judges.specs.Approximate.{point};
+ghost use Rattle.judges.specs.Demand.{fits, demand_yes};
 ghost use Rattle.std.proofs.Common.{arith};
 ghost use Rattle.judges.specs.Judged.{demand_sound, demand_dense, demand_fewer, yes_parts};
 
-use crate::curve::{approximates, point, shares};
+use crate::curve::{Curve, point};
 use crate::demand::Demand;
 use model::judge::Judge;
 use model::share::SCALE;
@@ -23,42 +24,28 @@ impl Judge for Demand {
 
     ghost few = { λ j l e. (yes_parts scale j.steps l e).0 };
 
+    #[tactic(auto, using(crate::proofs::Tested::all_tested))]
     fn judge(&self, list: &[Timing]) -> bool {
         if list.len() > 32 {
             return false;
         }
-        let (each, sum) = shares(list);
-        sum <= SCALE && rows_fit(list, list, &each[..list.len()], self.steps)
+        let curve = Curve::new(list, self.steps);
+        curve.shares() <= SCALE && curve.fits_rows(list)
     }
 }
 
-// Whether the demand of a list fits at the check-points of each of these rows.
-fn rows_fit(rows: &[Timing], list: &[Timing], slopes: &[u32], steps: u8) -> bool
-    requires few { length list.now ≤ 32 }
-    requires paired { slopes.now ≡ map (share scale) list.now }
-    requires stepped { steps ≤ 9 }
-    ensures { result ≡ fits_rows scale steps list.now rows.now }
-{
-    for x in rows {
-        if !points_fit(list, slopes, steps, x) {
-            return false;
-        }
+impl Curve<'_> {
+    // Whether the demand fits at the check-points of each of these rows.
+    fn fits_rows(&self, rows: &[Timing]) -> bool
+        ensures { result ≡ list_all (λ x. list_all (λ k. fits scale self.now.steps self.now.list.now (point x k)) (range_with_len 0 (suc self.now.steps))) rows.now }
+    {
+        rows.iter().all(|x| self.fits_points(x))
     }
-    true
-}
 
-// Whether it fits at those of one row, which has one more than there are retained steps.
-fn points_fit(list: &[Timing], slopes: &[u32], steps: u8, x: &Timing) -> bool
-    requires few { length list.now ≤ 32 }
-    requires paired { slopes.now ≡ map (share scale) list.now }
-    requires stepped { steps ≤ 9 }
-    ensures { result ≡ fits_points scale steps list.now x.now (suc steps) }
-{
-    for k in 0..=steps {
-        let t = point(x, k);
-        if approximates(list, slopes, steps, t) > SCALE * t as u64 {
-            return false;
-        }
+    // Whether it fits at those of one row, which has one more than there are retained steps.
+    fn fits_points(&self, x: &Timing) -> bool
+        ensures { result ≡ list_all (λ k. fits scale self.now.steps self.now.list.now (point x.now k)) (range_with_len 0 (suc self.now.steps)) }
+    {
+        (0..self.steps + 1).all(|k| self.fits(point(x, k)))
     }
-    true
 }

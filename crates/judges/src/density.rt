@@ -53,13 +53,10 @@ impl SizingJudge for Density {
 }
 
 // The sum of the densities: at most 32 scales, so nothing wraps.
+#[tactic(auto, using(crate::proofs::Sums::densities_summed))]
 fn densities(list: &[Timing]) -> u64
     requires { length list.now ≤ 32 }
     ensures { result ≡ densities scale list.now }
 {
-    let mut sum = 0;
-    for x in list {
-        sum += x.density();
-    }
-    sum
+    list.iter().map(Timing::density).sum()
 }

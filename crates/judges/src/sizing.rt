@@ -4,9 +4,11 @@ ghost use Rattle.judges.specs.Allowance.{demand_allowance, StartsBelow};
 ghost use Rattle.judges.specs.AllowanceLaws.{allowance_capped, allowance_periodic, allowance_asked, allowance_taken};
 ghost use Rattle.std.proofs.Common.{arith};
 
-use crate::allowance::allowance;
+use crate::allowance::Tail;
+use crate::curve::Curve;
 use crate::demand::Demand;
 use model::judge::SizingJudge;
+use model::limits::LONGEST_PERIOD;
 use model::timing::Timing;
 
 impl SizingJudge for Demand {
@@ -23,7 +25,11 @@ impl SizingJudge for Demand {
     ghost taken = { λ j l x c budget deadline. allowance_taken scale j.steps j.refinements l x c (omega arith) budget deadline };
 
     fn allowance(&self, list: &[Timing], period: u32, cap: u32) -> u32 {
-        allowance(list, self.steps, self.refinements, period, cap)
+        if cap == 0 || period == 0 || period > LONGEST_PERIOD || list.len() > 31 {
+            return 0;
+        }
+        let curve = Curve::new(list, self.steps);
+        Tail { curve, period }.longest(cap, self.refinements)
     }
 }
 
