@@ -87,11 +87,10 @@ impl Plan {
     fn holders(&self, key: u16) -> Few<bool, 8>
         ensures { held result ≡ map (has_key key) (lists self.now) }
     {
-        let mut holders = Few::new(false);
-        for processor in self.processors.as_slice() {
-            holders.push(processor.holds(key));
-        }
-        holders
+        Few::collected(
+            false,
+            self.processors.iter().map(|processor| processor.holds(key)),
+        )
     }
 
     // The budgets of a reservation's rows, and its deadline.

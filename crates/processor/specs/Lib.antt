@@ -1,6 +1,5 @@
 pub mod Rows
 pub mod Few
-pub mod Any
 pub mod Keys
 pub mod Look
 pub mod Taking

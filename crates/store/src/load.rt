@@ -19,9 +19,9 @@ pub fn load<J: Judge, P>(board: &mut Board<J, P>, image: &[u8]) -> Result<(), Fa
     ensures judge { board.new.judge ≡ board.old.judge }
     ensures rule { board.new.rule ≡ board.old.rule }
 {
-    let plan = unpack(board.processors.len(), image)?;
+    let plan = unpack(board.plan.processors.len(), image)?;
     plan.check_keys()?;
     plan.check_judge(&board.judge)?;
-    plan.refill(&mut board.processors);
+    plan.refill(&mut board.plan.processors);
     Ok(())
 }

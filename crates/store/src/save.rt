@@ -26,13 +26,14 @@ pub fn save<J, P>(board: &Board<J, P>, buffer: &mut [u8]) -> Result<usize, Buffe
 fn image_length<J, P>(board: &Board<J, P>) -> usize
     ensures { result ≡ length (image (plan board.now)) }
 {
-    4 + 2 * board.processors.len() + 18 * record_count(board) as usize
+    4 + 2 * board.plan.processors.len() + 18 * record_count(board) as usize
 }
 
 fn record_count<J, P>(board: &Board<J, P>) -> u16
     ensures { result ≡ row_count (plan board.now) }
 {
     board
+        .plan
         .processors
         .iter()
         .map(|processor| processor.rows.len() as u16)
@@ -45,7 +46,7 @@ fn put_image<J, P>(board: &Board<J, P>, buffer: &mut [u8])
     ensures { buffer.new ≡ overwritten buffer.old 0 (image (plan board.now)) }
 {
     let mut writer = Writer { buffer, at: 0 };
-    writer.put(&header(board.processors.len() as u8, record_count(board)));
+    writer.put(&header(board.plan.processors.len() as u8, record_count(board)));
     writer.put_heads(board);
     writer.put_records(board);
 }

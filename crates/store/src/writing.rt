@@ -23,12 +23,12 @@ impl Writer<'_> {
 
     // For each processor the number of its first record.
     pub(crate) fn put_heads<J, P>(&mut self, board: &Board<J, P>)
-        requires { self.old.at + 2 * vec_len board.now.processors ≤ length self.old.buffer.now }
+        requires { self.old.at + 2 * vec_len board.now.plan.processors ≤ length self.old.buffer.now }
         ensures same_reference { self.new.buffer.ghost_name ≡ self.old.buffer.ghost_name }
         ensures wrote { Wrote self.old self.new (heads_bytes 1 (plan board.now)) }
     {
         let mut number = 1;
-        for p in board.processors.as_slice() {
+        for p in board.plan.processors.as_slice() {
             let count = p.rows.len();
             self.put(&two(first_of(number, count)));
             number += count as u16;
@@ -42,7 +42,7 @@ impl Writer<'_> {
         ensures wrote { Wrote self.old self.new (records_bytes 1 (plan board.now)) }
     {
         let mut number = 1;
-        for p in board.processors.as_slice() {
+        for p in board.plan.processors.as_slice() {
             let rows = p.rows.as_slice();
             self.put_chain(number, rows);
             number += rows.len() as u16;

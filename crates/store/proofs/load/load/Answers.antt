@@ -13,7 +13,7 @@ pub returns-in_err-plan : goal.returns-in_err-plan
 returns-in_err-plan g c =
     let p = err_from_is_err_and c.from_residual.result c.from_residual.ensures.1 in
     let b = c.args.board.now in
-    let n : length (plan b) ≡ c.len.result = omega (arith, length-map (vec_items b.processors) rows_of) in
+    let n : length (plan b) ≡ c.len.result = omega (arith, length-map (vec_items b.plan.processors) rows_of) in
     let done = loaded_refused (g.J.Judge.accepts b.judge) c.args.image.now (plan b) c.len.result n _ c.in_err-plan.ensures in
     rw (p.1, p.2)
     record {
@@ -31,7 +31,7 @@ pub returns-in_err-check_keys : goal.returns-in_err-check_keys
 returns-in_err-check_keys g c =
     let p = err_from_is_err_and c.from_residual-in_err-check_keys.result c.from_residual-in_err-check_keys.ensures.1 in
     let b = c.args.board.now in
-    let n : length (plan b) ≡ c.len.result = omega (arith, length-map (vec_items b.processors) rows_of) in
+    let n : length (plan b) ≡ c.len.result = omega (arith, length-map (vec_items b.plan.processors) rows_of) in
     let done =
     loaded_keys (g.J.Judge.accepts b.judge) c.args.image.now (plan b) c.len.result n (all_held c.in_ok-plan.plan)
     c.in_ok-plan.ensures.0 _ c.check_keys.result c.check_keys.ensures c.in_err-check_keys.was in
@@ -48,7 +48,7 @@ pub returns-in_err-check_judge : goal.returns-in_err-check_judge
 returns-in_err-check_judge g c =
     let p = err_from_is_err_and c.from_residual-in_err-check_judge.result c.from_residual-in_err-check_judge.ensures.1 in
     let b = c.args.board.now in
-    let n : length (plan b) ≡ c.len.result = omega (arith, length-map (vec_items b.processors) rows_of) in
+    let n : length (plan b) ≡ c.len.result = omega (arith, length-map (vec_items b.plan.processors) rows_of) in
     let done =
     loaded_judge (g.J.Judge.accepts b.judge) c.args.image.now (plan b) c.len.result n (all_held c.in_ok-plan.plan)
     c.in_ok-plan.ensures.0 _ c.check_keys.result c.check_keys.ensures c.in_ok-check_keys.was
@@ -65,7 +65,7 @@ returns-in_err-check_judge g c =
 pub returns : goal.returns
 returns g c =
     let b = c.args.board.now in
-    let n : length (plan b) ≡ c.len.result = omega (arith, length-map (vec_items b.processors) rows_of) in
+    let n : length (plan b) ≡ c.len.result = omega (arith, length-map (vec_items b.plan.processors) rows_of) in
     let done =
     loaded_all (g.J.Judge.accepts b.judge) c.args.image.now (plan b) c.len.result n (all_held c.in_ok-plan.plan)
     c.in_ok-plan.ensures.0 _ c.check_keys.result c.check_keys.ensures c.in_ok-check_keys.was
