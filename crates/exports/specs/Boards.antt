@@ -4,6 +4,7 @@ use Rattle.model.specs.Refusal.{setup_number}
 use Rattle.model.specs.Scale.{scale}
 use Rattle.model.specs.declared.row.Row.{Row}
 use Rattle.model.specs.declared.timing.Timing.{Timing}
+use Rattle.model.specs.declared.wanted.Wanted.{Wanted}
 use Rattle.judges.specs.Allowance.{demand_allowance}
 use Rattle.judges.specs.Demand.{demand_yes}
 use Rattle.judges.specs.declared.demand.Demand.{Demand}
@@ -17,9 +18,10 @@ use Rattle.store.specs.Refusal.{buffer_number}
 use Rattle.store.specs.declared.fault.BufferFault.{BufferFault}
 use Rattle.wadispoon.specs.Sizes.{sizes_fault}
 use Rattle.exports.specs.declared.numbers.Setting.{Setting}
-use Rattle.exports.specs.declared.numbers.Wanted.{Wanted}
+use Rattle.exports.specs.declared.refusal.Refusal.{Refusal}
 use Rattle.exports.specs.declared.reply.Reply.{Reply}
 use Rattle.exports.specs.Judging.{numbered}
+use Rattle.exports.specs.Refusal.{refusal_number}
 
 -- 1 for what was done, 0 for a refusal
 abbrev pub done : {A F : Type 0} → Result A F → ℕ
@@ -55,10 +57,11 @@ NotStored s image k =
     (k ≡ 255) ⊎ ((f : BufferFault) × (left : List (List Row)) × Stored s image (Err f) left × (k ≡ buffer_number f.rule))
 
 -- a board of a setting with the plan of an image, or the first refusal
-abbrev pub Opened : Setting → List ℕ → Result (Board Demand Best) ℕ → Type 0
+abbrev pub Opened : Setting → List ℕ → Result (Board Demand Best) Refusal → Type 0
 Opened s image (Ok b) =
     (setting_refusal s ≡ None) × (b.judge.steps ≡ s.steps) × (b.judge.refinements ≡ s.refinements) × Stored s image (Ok tt) (plan b)
-Opened s image (Err k) = (setting_refusal s ≡ Some k) ⊎ ((setting_refusal s ≡ None) × NotStored s image k)
+Opened s image (Err f) =
+    (setting_refusal s ≡ Some (refusal_number f)) ⊎ ((setting_refusal s ≡ None) × NotStored s image (refusal_number f))
 
 -- the first refusal, or what is counted on the plan of the image
 pub data Counted (s : Setting) (image : List ℕ) (count : List (List Row) → ℕ) (reply : Reply) : Type 0 where

@@ -4,12 +4,15 @@ use Rattle.model.specs.Limits.{timing_fault}
 use Rattle.model.specs.Refusal.{request_number, setup_number}
 use Rattle.model.specs.Scale.{scale}
 use Rattle.model.specs.declared.timing.Timing.{Timing}
+use Rattle.model.specs.declared.fault.RequestFault.{RequestFault}
 use Rattle.judges.specs.Allowance.{demand_allowance}
 use Rattle.judges.specs.Demand.{demand_yes}
 use Rattle.judges.specs.Setting.{setting_fault}
 use Rattle.judges.specs.declared.demand.Demand.{Demand}
 use Rattle.processor.specs.declared.few.Few.{Few}
 use Rattle.processor.specs.Few.{held}
+use Rattle.exports.specs.Refusal.{refusal_number}
+use Rattle.exports.specs.declared.refusal.Refusal.{Refusal}
 use Rattle.exports.specs.declared.numbers.Numbers.{Numbers}
 use Rattle.exports.specs.declared.reply.Reply.{Reply}
 
@@ -41,15 +44,15 @@ abbrev pub asked_fault : ℕ → ℕ → List Numbers → Option ℕ
 asked_fault n r rows = or_later (numbered setup_number (setting_fault n r)) (or_later (long_fault rows) (rows_fault rows))
 
 -- timings of just these numbers, or the first limit that a row breaks
-abbrev pub Read : List Numbers → Result (Few Timing 32) ℕ → Type 0
+abbrev pub Read : List Numbers → Result (Few Timing 32) RequestFault → Type 0
 Read rows (Ok l) = (rows_fault rows ≡ None) × (map numbers (held l) ≡ rows)
-Read rows (Err n) = rows_fault rows ≡ Some n
+Read rows (Err f) = rows_fault rows ≡ Some (request_number f)
 
 -- a judge and timings of just these numbers, or the first refusal
-abbrev pub Asked : ℕ → ℕ → List Numbers → Result (Demand × Few Timing 32) ℕ → Type 0
+abbrev pub Asked : ℕ → ℕ → List Numbers → Result (Demand × Few Timing 32) Refusal → Type 0
 Asked n r rows (Ok q) =
     (asked_fault n r rows ≡ None) × (q.0.steps ≡ n) × (q.0.refinements ≡ r) × (map numbers (held q.1) ≡ rows)
-Asked n r rows (Err k) = asked_fault n r rows ≡ Some k
+Asked n r rows (Err f) = asked_fault n r rows ≡ Some (refusal_number f)
 
 -- a refusal, or what is said of the timings of these numbers
 abbrev pub Replied : Option ℕ → List Numbers → (List Timing → ℕ) → Reply → Type 0

@@ -1,13 +1,14 @@
 // A list of admissions on a stored plan.
-ghost use Rattle.std.specs.Prelude.{◌≡◌, ◌≤◌};
+ghost use Rattle.std.specs.Prelude.{◌≡◌};
 ghost use Rattle.board.specs.Plan.{plan};
 ghost use Rattle.exports.specs.Boards.{count_over, admitting, Admitting};
 
-use crate::numbers::{Setting, Wanted};
+use crate::numbers::Setting;
 use crate::opening::open;
 use crate::reply::Reply;
 use board::board::Board;
 use model::judge::SizingJudge;
+use model::wanted::Wanted;
 use placement::rule::Placement;
 use std::alloc::Global;
 
@@ -22,11 +23,8 @@ pub extern "C" fn wadispoon_admit(
     ensures { Admitting setting.now image.now wanted.now result }
 {
     match open(heap, setting, image) {
-        Ok(opened) => {
-            let mut board = opened;
-            Reply::of(admit_all(&mut board, wanted))
-        }
-        Err(number) => Reply::refusal(number),
+        Ok(mut board) => Reply::of(admit_all(&mut board, wanted)),
+        Err(refusal) => Reply::refusal(refusal),
     }
 }
 
@@ -35,21 +33,9 @@ fn admit_all<J: SizingJudge, P: Placement>(board: &mut Board<J, P>, wanted: &[Wa
 {
     let mut count = 0;
     for one in wanted {
-        count += admit_one(board, one);
+        if board.admit(*one).is_ok() {
+            count += 1;
+        }
     }
     count
-}
-
-// 1 if it was admitted, 0 if it was refused.
-fn admit_one<J: SizingJudge, P: Placement>(board: &mut Board<J, P>, one: &Wanted) -> u64
-    ensures value { result ≡ (admitting P.Rank.Rank.first (P.ranks board.old.rule) (J.Judge.accepts board.old.judge) (J.allows board.old.judge) (plan board.old) one.now).0 }
-    ensures bound { result ≤ 1 }
-    ensures after { plan board.new ≡ (admitting P.Rank.Rank.first (P.ranks board.old.rule) (J.Judge.accepts board.old.judge) (J.allows board.old.judge) (plan board.old) one.now).1 }
-    ensures judge { board.new.judge ≡ board.old.judge }
-    ensures rule { board.new.rule ≡ board.old.rule }
-{
-    match board.admit(one.key, one.budget, one.deadline, one.period) {
-        Ok(_) => 1,
-        Err(_) => 0,
-    }
 }

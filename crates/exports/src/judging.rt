@@ -12,11 +12,8 @@ pub extern "C" fn wadispoon_judge(steps: u32, rows: &[Numbers]) -> Reply
     ensures { Judged steps rows.now result }
 {
     match question(steps, 0, rows) {
-        Ok(asked) => {
-            let (judge, list) = asked;
-            Reply::of(judge.judge(list.as_slice()) as u64)
-        }
-        Err(number) => Reply::refusal(number),
+        Ok((judge, list)) => Reply::of(judge.judge(list.as_slice()) as u64),
+        Err(refusal) => Reply::refusal(refusal),
     }
 }
 
@@ -32,10 +29,7 @@ pub extern "C" fn wadispoon_allowance(
     ensures { Allowed steps refinements rows.now period cap result }
 {
     match question(steps, refinements, rows) {
-        Ok(asked) => {
-            let (judge, list) = asked;
-            Reply::of(judge.allowance(list.as_slice(), period, cap) as u64)
-        }
-        Err(number) => Reply::refusal(number),
+        Ok((judge, list)) => Reply::of(judge.allowance(list.as_slice(), period, cap) as u64),
+        Err(refusal) => Reply::refusal(refusal),
     }
 }

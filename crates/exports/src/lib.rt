@@ -7,5 +7,6 @@ pub mod judging;
 pub mod numbers;
 mod opening;
 mod question;
+mod refusal;
 pub mod reply;
 pub mod withdrawing;

@@ -17,13 +17,3 @@ pub struct Setting {
     pub steps: u32,
     pub refinements: u32,
 }
-
-// A reservation that is asked for.
-#[repr(C)]
-#[derive(Clone, Copy)]
-pub struct Wanted {
-    pub key: u32,
-    pub budget: u32,
-    pub deadline: u32,
-    pub period: u32,
-}

@@ -1,5 +1,8 @@
 // What a host is told.
 ghost use Rattle.std.specs.Prelude.{◌≡◌};
+ghost use Rattle.exports.specs.Refusal.{refusal_number};
+
+use crate::refusal::Refusal;
 
 // The number of a refusal and the value 0, or 0 and the value.
 #[repr(C)]
@@ -17,12 +20,12 @@ impl Reply {
         Reply { refused: 0, value }
     }
 
-    pub(crate) fn refusal(number: u8) -> Reply
-        ensures refused { result.refused ≡ number }
+    pub(crate) fn refusal(refusal: Refusal) -> Reply
+        ensures refused { result.refused ≡ refusal_number refusal }
         ensures value { result.value ≡ 0 }
     {
         Reply {
-            refused: number as u32,
+            refused: refusal.number() as u32,
             value: 0,
         }
     }

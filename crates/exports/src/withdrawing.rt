@@ -1,5 +1,5 @@
 // A list of withdrawals from a stored plan.
-ghost use Rattle.std.specs.Prelude.{◌≡◌, ◌≤◌};
+ghost use Rattle.std.specs.Prelude.{◌≡◌};
 ghost use Rattle.board.specs.Plan.{plan};
 ghost use Rattle.exports.specs.Boards.{count_over, withdrawing, Withdrawing};
 
@@ -21,11 +21,8 @@ pub extern "C" fn wadispoon_withdraw(
     ensures { Withdrawing setting.now image.now keys.now result }
 {
     match open(heap, setting, image) {
-        Ok(opened) => {
-            let mut board = opened;
-            Reply::of(withdraw_all(&mut board, keys))
-        }
-        Err(number) => Reply::refusal(number),
+        Ok(mut board) => Reply::of(withdraw_all(&mut board, keys)),
+        Err(refusal) => Reply::refusal(refusal),
     }
 }
 
@@ -34,20 +31,9 @@ fn withdraw_all<J: Judge, P>(board: &mut Board<J, P>, keys: &[u32]) -> u64
 {
     let mut count = 0;
     for key in keys {
-        count += withdraw_one(board, *key);
+        if board.withdraw(*key).is_ok() {
+            count += 1;
+        }
     }
     count
-}
-
-// 1 if it stood, 0 if it did not.
-fn withdraw_one<J: Judge, P>(board: &mut Board<J, P>, key: u32) -> u64
-    ensures value { result ≡ (withdrawing (J.accepts board.old.judge) (plan board.old) key).0 }
-    ensures bound { result ≤ 1 }
-    ensures after { plan board.new ≡ (withdrawing (J.accepts board.old.judge) (plan board.old) key).1 }
-    ensures judge { board.new.judge ≡ board.old.judge }
-{
-    match board.withdraw(key) {
-        Ok(_) => 1,
-        Err(_) => 0,
-    }
 }

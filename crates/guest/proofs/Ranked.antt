@@ -30,11 +30,11 @@ never_ahead a b p q even odd (inr same) =
     let both : ◌≡◌ {A = ℕ} 0 1 = cc in omega arith
 
 step : (plan : Plan) (call : Call) (answer : Answer) → FirstInRank guest_meaning plan call answer → EvenOnlyThen plan call answer
-step plan (Call.Admit k c d t) (Answer.Admitted r) first = λ p x is even q odd takes.
+step plan (Call.Admit w) (Answer.Admitted r) first = λ p x is even q odd takes.
     let ahead = (first p x is).1.ahead q takes (λ same. omega (arith, ap (λ n. n % 2) same)) in
     never_ahead (side p) (side q) p q (even_side p even) (odd_side q odd) (elim ahead [ inl h ↦ inl h | inr h ↦ inr h.0 ])
-step plan (Call.Admit k c d t) (Answer.Withdrawn r) first = tt
-step plan (Call.Admit k c d t) (Answer.Loaded r) first = tt
+step plan (Call.Admit w) (Answer.Withdrawn r) first = tt
+step plan (Call.Admit w) (Answer.Loaded r) first = tt
 step plan (Call.Withdraw k) answer first = tt
 step plan (Call.Load image) answer first = tt
 

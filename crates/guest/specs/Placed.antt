@@ -21,11 +21,11 @@ guest_meaning = meant sooner (λ p spare rows. side p) (guest_yes scale) guest_a
 
 -- where a newcomer was put whole on an even processor, no odd one could have taken it
 abbrev pub EvenOnlyThen : Plan → Call → Answer → Type 0
-EvenOnlyThen plan (Call.Admit k c d t) (Answer.Admitted r) =
-    (p : ℕ) (x : Timing) → told r ≡ Ok (placed k p Kind.Whole x ∷ []) → p % 2 ≡ 0 →
+EvenOnlyThen plan (Call.Admit w) (Answer.Admitted r) =
+    (p : ℕ) (x : Timing) → told r ≡ Ok (placed w.key p Kind.Whole x ∷ []) → p % 2 ≡ 0 →
     (q : ℕ) → q % 2 ≡ 1 → Takes (guest_yes scale) plan [] x q → ⊥
-EvenOnlyThen plan (Call.Admit k c d t) (Answer.Withdrawn r) = Unit {0}
-EvenOnlyThen plan (Call.Admit k c d t) (Answer.Loaded r) = Unit {0}
+EvenOnlyThen plan (Call.Admit w) (Answer.Withdrawn r) = Unit {0}
+EvenOnlyThen plan (Call.Admit w) (Answer.Loaded r) = Unit {0}
 EvenOnlyThen plan (Call.Withdraw k) answer = Unit {0}
 EvenOnlyThen plan (Call.Load image) answer = Unit {0}
 

@@ -1,7 +1,7 @@
 -- A judge for timings that share one period: its yes and its tail allowance. Assumes nothing.
 use Rattle.std.specs.Prelude.{ℕ, ◌+◌, min, Bool, true, cond, ◌&&◌, ◌||◌, List, [], ◌∷◌, length, ◌==◌, nat_le}
 use Rattle.model.specs.declared.timing.Timing.{Timing}
-use Rattle.model.specs.Share.{densities}
+use Rattle.model.specs.Share.{densities, alone}
 
 abbrev pub budgets : List Timing → ℕ
 budgets [] = 0
@@ -31,5 +31,4 @@ guest_yes s l = nat_le (length l) 32 && (nat_le (densities s l) s || together l)
 
 -- an empty processor offers all it can, any other nothing
 abbrev pub guest_allowance : List Timing → ℕ → ℕ → ℕ
-guest_allowance [] t c = cond (nat_le t 100000) (min c t) 0
-guest_allowance (x ∷ l) t c = 0
+guest_allowance = alone

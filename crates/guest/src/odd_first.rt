@@ -3,6 +3,7 @@ ghost use Rattle.guest.specs.Sides.{side, sooner};
 ghost use Rattle.std.proofs.Common.{rules};
 
 use crate::side::Side;
+use placement::candidate::Candidate;
 use placement::rank::Rank;
 use placement::rule::Placement;
 
@@ -34,7 +35,8 @@ impl Placement for OddFirst {
 
     ghost ranks = { λ _ processor spare rows. side processor };
 
-    fn rank(&self, processor: u8, _spare: i32, _rows: u8) -> Side {
+    fn rank(&self, candidate: &Candidate) -> Side {
+        let processor = candidate.processor;
         if processor % 2 == 1 {
             Side::Odd(processor)
         } else {

@@ -2,14 +2,12 @@
 // budgets together fill at most that period.
 ghost use Rattle.std.specs.Prelude.{◌≡◌, ◌≤◌, length};
 ghost use Rattle.model.specs.Scale.{scale};
-ghost use Rattle.model.specs.Share.{densities};
 ghost use Rattle.guest.specs.Together.{budgets, in_step, all_in_step, share_period, together, guest_yes, guest_allowance};
 ghost use Rattle.std.proofs.Common.{arith, rules};
 ghost use Rattle.guest.specs.Lawful.{guest_sound, guest_fewer, guest_taken};
 
 use model::judge::{Judge, SizingJudge};
-use model::limits::LONGEST_PERIOD;
-use model::share::SCALE;
+use model::share::{alone, densities_fit};
 use model::timing::Timing;
 
 #[derive(Clone, Copy)]
@@ -27,7 +25,7 @@ impl Judge for SamePeriod {
     ghost few = { Prim.search rules };
 
     fn judge(&self, list: &[Timing]) -> bool {
-        list.len() <= 32 && (densities(list) <= SCALE || together(list))
+        densities_fit(list) || (list.len() <= 32 && together(list))
     }
 }
 
@@ -46,11 +44,7 @@ impl SizingJudge for SamePeriod {
     ghost taken = { λ j l x c e _. guest_taken scale l x c e };
 
     fn allowance(&self, list: &[Timing], period: u32, cap: u32) -> u32 {
-        if list.is_empty() && period <= LONGEST_PERIOD {
-            cap.min(period)
-        } else {
-            0
-        }
+        alone(list, period, cap)
     }
 }
 
@@ -59,9 +53,9 @@ fn together(list: &[Timing]) -> bool
     requires { length list.now ≤ 32 }
     ensures { result ≡ together list.now }
 {
-    match list.split_first() {
-        None => true,
-        Some((first, _)) => share_period(list, first.period),
+    match list {
+        [] => true,
+        [first, ..] => share_period(list, first.period),
     }
 }
 
@@ -76,12 +70,7 @@ fn share_period(list: &[Timing], period: u32) -> bool
 fn all_in_step(list: &[Timing], period: u32) -> bool
     ensures { result ≡ all_in_step period list.now }
 {
-    for x in list {
-        if !in_step(x, period) {
-            return false;
-        }
-    }
-    true
+    list.iter().all(|x| in_step(x, period))
 }
 
 // Whether this is a timing's period, and its deadline too.
@@ -96,21 +85,5 @@ fn budgets(list: &[Timing]) -> u32
     requires { length list.now ≤ 32 }
     ensures { result ≡ budgets list.now }
 {
-    let mut sum: u32 = 0;
-    for x in list {
-        sum += x.budget;
-    }
-    sum
-}
-
-// The sum of the densities: at most 32 scales.
-fn densities(list: &[Timing]) -> u64
-    requires { length list.now ≤ 32 }
-    ensures { result ≡ densities scale list.now }
-{
-    let mut sum: u64 = 0;
-    for x in list {
-        sum += x.density();
-    }
-    sum
+    list.iter().map(|x| x.budget).sum()
 }

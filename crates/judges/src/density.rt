@@ -1,14 +1,11 @@
 // The density judge: yes where the densities sum to at most one.
-ghost use Rattle.std.specs.Prelude.{◌≡◌, ◌≤◌, length};
 ghost use Rattle.model.specs.Scale.{scale};
-ghost use Rattle.model.specs.Share.{densities};
 ghost use Rattle.judges.specs.Density.{density_yes, density_allowance};
 ghost use Rattle.std.proofs.Common.{arith, rules};
 ghost use Rattle.judges.specs.Judged.{density_sound, density_fewer, density_taken};
 
 use model::judge::{Judge, SizingJudge};
-use model::limits::LONGEST_PERIOD;
-use model::share::SCALE;
+use model::share::{alone, densities_fit};
 use model::timing::Timing;
 
 #[derive(Clone, Copy)]
@@ -26,7 +23,7 @@ impl Judge for Density {
     ghost few = { Prim.search rules };
 
     fn judge(&self, list: &[Timing]) -> bool {
-        list.len() <= 32 && densities(list) <= SCALE
+        densities_fit(list)
     }
 }
 
@@ -44,19 +41,6 @@ impl SizingJudge for Density {
     ghost taken = { λ j l x c e _. density_taken scale l x c e };
 
     fn allowance(&self, list: &[Timing], period: u32, cap: u32) -> u32 {
-        if list.is_empty() && period <= LONGEST_PERIOD {
-            cap.min(period)
-        } else {
-            0
-        }
+        alone(list, period, cap)
     }
-}
-
-// The sum of the densities: at most 32 scales, so nothing wraps.
-#[tactic(auto, using(crate::proofs::Sums::densities_summed))]
-fn densities(list: &[Timing]) -> u64
-    requires { length list.now ≤ 32 }
-    ensures { result ≡ densities scale list.now }
-{
-    list.iter().map(Timing::density).sum()
 }

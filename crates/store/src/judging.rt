@@ -9,7 +9,8 @@ use crate::fault::{BufferFault, BufferRule};
 use crate::lists::Lists;
 use model::judge::Judge;
 use model::row::Row;
-use processor::asking::question;
+use processor::asking::{Timings, UNUSED};
+use processor::few::Few;
 
 impl Lists<Row> {
     // Refuses the lowest processor whose rows get no.
@@ -29,9 +30,6 @@ fn says_yes<J: Judge>(judge: &J, rows: &[Row]) -> bool
     requires { length rows.now ≤ 32 }
     ensures { result ≡ J.Judge.accepts judge.now (timings rows.now) }
 {
-    let mut list = question();
-    for row in rows {
-        list.push(row.timing);
-    }
+    let list: Timings = Few::collected(UNUSED, rows.iter().map(|row| row.timing));
     judge.judge(list.as_slice())
 }

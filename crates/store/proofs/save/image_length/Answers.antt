@@ -7,4 +7,4 @@ use Rattle.store.proofs.save.image_length.Goals as goal
 
 pub returns : goal.returns
 returns g c =
-    let b = c.args.board.now in omega (arith, length_image (plan b), length-map (vec_items b.processors) rows_of, c.record_count.ensures)
+    let b = c.args.board.now in omega (arith, length_image (plan b), length-map (vec_items b.plan.processors) rows_of, c.record_count.ensures)

@@ -1,7 +1,0 @@
-use Rattle.std.proofs.Common.{◌≡◌, take}
-use Rattle.model.specs.Row.{timings}
-use Rattle.processor.specs.Few.{held}
-use Rattle.store.proofs.judging.says_yes.Given as goal
-
-abbrev pub invariant-loop-row : goal.invariant-loop-row
-invariant-loop-row g l = held l.list ≡ timings (take l.row-index l.rows)
