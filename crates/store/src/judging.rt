@@ -1,11 +1,13 @@
 // The judge's yes to every processor's rows.
 ghost use Rattle.std.specs.Prelude.{◌≡◌, ◌+◌, ◌≤◌, length, if◌then◌else◌, Ok, Err};
 ghost use Rattle.model.specs.Row.{timings};
+ghost use Rattle.store.specs.declared.fault.BufferRule.{BufferRule};
+ghost use Rattle.store.specs.Fault.{fault};
 ghost use Rattle.store.specs.InPlace.{all_held};
 ghost use Rattle.store.specs.Answers.{answered};
 ghost use Rattle.store.specs.Judged.{judge_fault};
 
-use crate::fault::{BufferFault, BufferRule};
+use crate::fault::{BufferFault, BufferRule as Rule};
 use crate::lists::Lists;
 use model::judge::Judge;
 use model::row::Row;
@@ -18,12 +20,21 @@ impl Lists<Row> {
         ensures { result ≡ answered (judge_fault (J.Judge.accepts judge.now) 1 (all_held self.now)) }
     {
         for (i, rows) in self.as_slice().iter().enumerate() {
-            if !says_yes(judge, rows.as_slice()) {
-                return Err(BufferRule::Judge.at(i as u16 + 1));
-            }
+            check_rows(judge, rows.as_slice(), i as u16 + 1)?;
         }
         Ok(())
     }
+}
+
+// Refuses the rows of one processor, counted from 1, if they get no.
+fn check_rows<J: Judge>(judge: &J, rows: &[Row], processor: u16) -> Result<(), BufferFault>
+    requires { length rows.now ≤ 32 }
+    ensures { result ≡ (if J.Judge.accepts judge.now (timings rows.now) then Ok tt else Err (fault BufferRule.Judge processor)) }
+{
+    if !says_yes(judge, rows) {
+        return Err(Rule::Judge.at(processor));
+    }
+    Ok(())
 }
 
 fn says_yes<J: Judge>(judge: &J, rows: &[Row]) -> bool

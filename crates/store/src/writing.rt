@@ -1,7 +1,7 @@
 // The parts of an image, one after the other into a buffer.
-ghost use Rattle.std.specs.Prelude.{◌≡◌, ◌+◌, ◌*◌, ◌≤◌, length, vec_len};
+ghost use Rattle.std.specs.Prelude.{◌≡◌, ◌+◌, ◌*◌, ◌<◌, ◌≤◌, length, vec_len};
 ghost use Rattle.board.specs.Plan.{plan};
-ghost use Rattle.store.specs.Image.{chain_bytes, records_bytes, heads_bytes, row_count};
+ghost use Rattle.store.specs.Image.{first, chain_bytes, records_bytes, heads_bytes, row_count};
 ghost use Rattle.store.specs.Written.{Wrote};
 
 use crate::encode::{first_of, record, two};
@@ -52,14 +52,21 @@ impl Writer<'_> {
     // The records of one processor's rows, numbered from a number on.
     fn put_chain(&mut self, from: u16, rows: &[Row])
         requires room { self.old.at + 18 * length rows.now ≤ length self.old.buffer.now }
-        requires few { from + length rows.now ≤ 65535 }
+        requires few { (1 ≤ from) × (from + length rows.now ≤ 65535) }
         ensures same_reference { self.new.buffer.ghost_name ≡ self.old.buffer.ghost_name }
         ensures wrote { Wrote self.old self.new (chain_bytes from rows.now) }
     {
         for (i, row) in rows.iter().enumerate() {
             let number = from + i as u16;
-            let next = first_of(number + 1, rows.len() - i - 1);
-            self.put(&record(next, row));
+            self.put(&record(next_of(number, rows.len() - i - 1), row));
         }
     }
+}
+
+// The number of the record that follows a record in its chain, with so many records left there; 0 at its end.
+fn next_of(number: u16, left: usize) -> u16
+    requires { (1 ≤ number) × (number < 65535) }
+    ensures { result ≡ first (number + 1) left }
+{
+    first_of(number + 1, left)
 }

@@ -17,8 +17,8 @@ loop-i-preserved c =
       at = omega (arith, wrote.at, inv.at);
       left = subst (λ k. Left c.args.self.now c.put.new.self (chain_bytes k (drop (c.loop-i.i + 1) c.args.rows.now)) (chain_bytes c.args.from c.args.rows.now)) n
           (left_more c.args.self.now here c.put.new.self c.record.result _ _ _ wrote (omega (arith, inv.at, inv.long))
-          (chain_more c.args.rows.now c.loop-i.i c.index-rows-i.result (c.args.from + c.loop-i.i) c.first_of-next.result c.record.result
-          (omega arith) c.index-rows-i.is c.record.ensures c.first_of-next.ensures) inv.left);
+          (chain_more c.args.rows.now c.loop-i.i c.index-rows-i.result (c.args.from + c.loop-i.i) c.next_of.result c.record.result
+          (omega arith) c.index-rows-i.is c.record.ensures c.next_of.ensures) inv.left);
     }
 
 pub returns-clause-wrote : goal.returns-clause-wrote

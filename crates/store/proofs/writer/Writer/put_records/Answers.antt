@@ -24,6 +24,7 @@ loop-p-preserved g c =
     record {
       same = c.put_chain.ensures.same_reference ∙ inv.same;
       room = omega (arith, split, long, after, wrote.at, inv.room);
+      some = omega arith;
       few = omega arith;
       left =
           left_more c.args.self.now here c.put_chain.new.self _ _ _ _ wrote (omega (arith, inv.room))
