@@ -1,3 +1,3 @@
-pub mod Walk
+pub mod Sums
 pub mod Most
 pub mod Ranked

@@ -1,5 +1,6 @@
 -- A judge for timings that share one period: its yes and its tail allowance. Assumes nothing.
 use Rattle.std.specs.Prelude.{ℕ, ◌+◌, min, Bool, true, cond, ◌&&◌, ◌||◌, List, [], ◌∷◌, length, ◌==◌, nat_le}
+use Rattle.std.specs.List.{list_all}
 use Rattle.model.specs.declared.timing.Timing.{Timing}
 use Rattle.model.specs.Share.{densities, alone}
 
@@ -13,8 +14,7 @@ in_step p x = x.period == p && x.deadline == p
 
 -- of every timing
 abbrev pub all_in_step : ℕ → List Timing → Bool
-all_in_step p [] = true
-all_in_step p (x ∷ l) = in_step p x && all_in_step p l
+all_in_step p = list_all (in_step p)
 
 -- they all have p as period and deadline, and one period is long enough for one budget of each
 abbrev pub share_period : ℕ → List Timing → Bool

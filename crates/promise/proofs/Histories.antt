@@ -119,7 +119,7 @@ module _ {R : Type 0} (m : Meaning R) (law : Lawful m) where
   kept_derived plan accepted (Call.Admit w) (Answer.Admitted (Ok a)) next some kept h =
       (kept_admits m law plan accepted kept w.key w.budget w.deadline w.period (made_rows a) next h, ok_written plan w.key w.budget w.deadline w.period (made_rows a) next h)
   kept_derived plan accepted (Call.Admit w) (Answer.Admitted (Err f)) next some kept h =
-      let same = err_same plan k c d t f next h in (subst (λ q. Kept m q accepted) (sym same) kept, ap length same)
+      let same = err_same plan w.key w.budget w.deadline w.period f next h in (subst (λ q. Kept m q accepted) (sym same) kept, ap length same)
   kept_derived plan accepted (Call.Admit w) (Answer.Withdrawn r) next some kept h = absurd h
   kept_derived plan accepted (Call.Admit w) (Answer.Loaded r) next some kept h = absurd h
   kept_derived plan accepted (Call.Withdraw k) (Answer.Admitted r) next some kept h = absurd h

@@ -1,7 +1,9 @@
 // Calls of a board, answered by plain numbers that a test can compare.
 use board::board::Board;
+use model::fault::Numbered;
 use model::judge::{Judge, SizingJudge};
 use model::row::{Kind, Row};
+use model::wanted::Wanted;
 use placement::rule::Placement;
 use std::alloc::Global;
 use std::test::Fail;
@@ -15,13 +17,18 @@ pub(crate) fn board_of<J: Drop, P: Drop>(
     judge: J,
     rule: P,
 ) -> Result<Board<J, P>, Fail> {
-    match Board::new(heap, processors, judge, rule) {
-        Ok(board) => Ok(board),
-        Err(_) => Err(Fail::new("no board")),
-    }
+    Board::new(heap, processors, judge, rule).map_err(|_| Fail::new("no board"))
 }
 
 // The number of the refusal, or 0.
+pub(crate) fn refusal<T: Drop, F: Numbered + Drop>(answer: Result<T, F>) -> u8 {
+    match answer {
+        Ok(_) => 0,
+        Err(fault) => fault.number(),
+    }
+}
+
+// That of an admission.
 pub(crate) fn admitted<J: SizingJudge, P: Placement>(
     board: &mut Board<J, P>,
     key: u32,
@@ -29,10 +36,12 @@ pub(crate) fn admitted<J: SizingJudge, P: Placement>(
     deadline: u32,
     period: u32,
 ) -> u8 {
-    match board.admit(key, budget, deadline, period) {
-        Ok(_) => 0,
-        Err(fault) => fault.number(),
-    }
+    refusal(board.admit(Wanted {
+        key,
+        budget,
+        deadline,
+        period,
+    }))
 }
 
 // Whether all these are admitted, one after the other: a key, a budget and a period, which is the deadline too.
@@ -48,14 +57,6 @@ pub(crate) fn admits_all<J: SizingJudge, P: Placement>(
     true
 }
 
-// The number of the refusal, or 0.
-pub(crate) fn withdrawn<J: Judge, P>(board: &mut Board<J, P>, key: u32) -> u8 {
-    match board.withdraw(key) {
-        Ok(_) => 0,
-        Err(fault) => fault.number(),
-    }
-}
-
 // Whether the key is withdrawn and just these are gathered, on the processors in turn.
 pub(crate) fn gathers<J: Judge, P>(board: &mut Board<J, P>, key: u32, keys: &[u16]) -> bool {
     match board.withdraw(key) {
@@ -64,31 +65,21 @@ pub(crate) fn gathers<J: Judge, P>(board: &mut Board<J, P>, key: u32, keys: &[u1
     }
 }
 
-// The number of the refusal, or 0.
-pub(crate) fn looked<J, P>(board: &Board<J, P>, processor: u32, position: u32) -> u8 {
-    match board.look(processor, position) {
-        Ok(_) => 0,
-        Err(fault) => fault.number(),
-    }
-}
-
 // Whether a processor holds these rows in this order, and no others.
 pub(crate) fn holds<J, P>(board: &Board<J, P>, processor: u32, rows: &[Shown]) -> bool {
-    let mut position = 1;
-    for row in rows {
-        if position > 32 || !shows(board, processor, position, row) {
-            return false;
-        }
-        position += 1;
-    }
-    looked(board, processor, position) == 21
+    let Ok(count) = u32::try_from(rows.len()) else {
+        return false;
+    };
+    rows.iter()
+        .zip(1..=count)
+        .all(|(row, position)| shows(board, processor, position, row))
+        && refusal(board.look(processor, count.saturating_add(1))) == 21
 }
 
 fn shows<J, P>(board: &Board<J, P>, processor: u32, position: u32, row: &Shown) -> bool {
-    match board.look(processor, position) {
-        Ok(found) => shown(found) == *row,
-        Err(_) => false,
-    }
+    board
+        .look(processor, position)
+        .is_ok_and(|found| shown(found) == *row)
 }
 
 fn shown(row: Row) -> Shown {

@@ -2,6 +2,7 @@
 use crate::asking::{admits_all, board_of, holds};
 use board::board::Board;
 use judges::demand::Demand;
+use model::fault::Numbered;
 use model::judge::Judge;
 use model::row::Kind;
 use placement::best::Best;
@@ -18,10 +19,7 @@ fn loaded<J: Judge, P>(board: &mut Board<J, P>, image: &[u8]) -> (u8, u16) {
 }
 
 fn saved<J, P>(board: &Board<J, P>, buffer: &mut [u8]) -> usize {
-    match save(board, buffer) {
-        Ok(length) => length,
-        Err(_) => 0,
-    }
+    save(board, buffer).unwrap_or(0)
 }
 
 fn damaged(image: [u8; 80], at: usize, byte: u8) -> [u8; 80] {

@@ -1,5 +1,5 @@
 // Numbers at the limits.
-use crate::asking::{admitted, board_of, looked, withdrawn};
+use crate::asking::{admitted, board_of, refusal};
 use judges::demand::Demand;
 use judges::density::Density;
 use placement::best::Best;
@@ -58,7 +58,7 @@ fn names(rt: HostRuntime) -> Result<(), Fail> {
         (1, u32::MAX, 21),
         (u32::MAX, u32::MAX, 21),
     ] {
-        assert_eq!(rt; looked(&board, processor, position), number);
+        assert_eq!(rt; refusal(board.look(processor, position)), number);
     }
     for (key, number) in [
         (0, 20),
@@ -67,7 +67,7 @@ fn names(rt: HostRuntime) -> Result<(), Fail> {
         (65535, 0),
         (65535, 20),
     ] {
-        assert_eq!(rt; withdrawn(&mut board, key), number);
+        assert_eq!(rt; refusal(board.withdraw(key)), number);
     }
     Ok(())
 }
@@ -82,8 +82,8 @@ fn rows_of_a_processor(rt: HostRuntime) -> Result<(), Fail> {
             if key <= 32 { 0 } else { 17 }
         );
     }
-    assert_eq!(rt; looked(&board, 1, 32), 0);
-    assert_eq!(rt; looked(&board, 1, 33), 21);
+    assert_eq!(rt; refusal(board.look(1, 32)), 0);
+    assert_eq!(rt; refusal(board.look(1, 33)), 21);
     Ok(())
 }
 
@@ -97,7 +97,7 @@ fn reservations(rt: HostRuntime) -> Result<(), Fail> {
             if key <= 64 { 0 } else { 16 }
         );
     }
-    assert_eq!(rt; looked(&board, 2, 32), 0);
-    assert_eq!(rt; looked(&board, 3, 1), 21);
+    assert_eq!(rt; refusal(board.look(2, 32)), 0);
+    assert_eq!(rt; refusal(board.look(3, 1)), 21);
     Ok(())
 }

@@ -1,8 +1,10 @@
 // Boards, judges and listed orders of numbers at the limits.
+use crate::asking::refusal;
 use board::board::Board;
 use board::setup::SetupError;
 use judges::demand::Demand;
 use judges::density::Density;
+use model::fault::Numbered;
 use placement::best::Best;
 use placement::listed::Listed;
 use std::alloc::Global;
@@ -13,20 +15,6 @@ fn set_up(heap: Global, processors: u32) -> u8 {
         Ok(_) => 0,
         Err(SetupError::Refused(fault)) => fault.number(),
         Err(SetupError::Memory) => 99,
-    }
-}
-
-fn made(steps: u32, refinements: u32) -> u8 {
-    match Demand::new(steps, refinements) {
-        Ok(_) => 0,
-        Err(fault) => fault.number(),
-    }
-}
-
-fn ordered(processors: [u8; 8]) -> u8 {
-    match Listed::new(processors) {
-        Ok(_) => 0,
-        Err(fault) => fault.number(),
     }
 }
 
@@ -50,15 +38,15 @@ fn steps_and_refinements(rt: HostRuntime) {
         (u32::MAX, 0, 2),
         (0, u32::MAX, 3),
     ] {
-        assert_eq!(rt; made(steps, refinements), number);
+        assert_eq!(rt; refusal(Demand::new(steps, refinements)), number);
     }
 }
 
 // An order names 1 to 8 once each (4): not with 7 twice, nor with 0 or 255.
 #[test]
 fn orders(rt: HostRuntime) {
-    assert_eq!(rt; ordered([8, 7, 6, 5, 4, 3, 2, 1]), 0);
-    assert_eq!(rt; ordered([1, 2, 3, 4, 5, 6, 7, 7]), 4);
-    assert_eq!(rt; ordered([0, 1, 2, 3, 4, 5, 6, 7]), 4);
-    assert_eq!(rt; ordered([1, 2, 3, 4, 5, 6, 7, 255]), 4);
+    assert_eq!(rt; refusal(Listed::new([8, 7, 6, 5, 4, 3, 2, 1])), 0);
+    assert_eq!(rt; refusal(Listed::new([1, 2, 3, 4, 5, 6, 7, 7])), 4);
+    assert_eq!(rt; refusal(Listed::new([0, 1, 2, 3, 4, 5, 6, 7])), 4);
+    assert_eq!(rt; refusal(Listed::new([1, 2, 3, 4, 5, 6, 7, 255])), 4);
 }

@@ -7,32 +7,33 @@ use board::gathered::Gathered;
 use guest::odd_first::OddFirst;
 use guest::same_period::SamePeriod;
 use guest::visit::visit;
-use model::fault::{NamingFault, RequestFault};
+use model::fault::{NamingFault, Numbered, RequestFault};
+use model::wanted::Wanted;
 use processor::asking::MOST_ROWS;
 use promise::call::{Answer, Call};
 use promise::history::Outcome;
+use std::array;
 use std::io;
 
 // Every reservation here is released every 41 ticks at the soonest.
 const PERIOD: u32 = 41;
 
 fn ask(key: u32, budget: u32, deadline: u32) -> Call<'static> {
-    Call::Admit {
+    Call::Admit(Wanted {
         key,
         budget,
         deadline,
         period: PERIOD,
-    }
+    })
 }
 
 // 23 of budget 1 and 9 of budget 2 fill the 41 ticks. Their shares, 25,576 and 51,151 after rounding up, come to
 // 23 × 25,576 + 9 × 51,151 = 1,048,607, which is 31 more than the scale.
 fn full(rt: &HostRuntime) -> io::Result<()> {
-    let mut calls = [ask(1, 1, PERIOD); MOST_ROWS];
-    for i in 0..MOST_ROWS {
+    let calls: [Call; MOST_ROWS] = array::from_fn(|i| {
         let budget = if i < 23 { 1 } else { 2 };
-        calls[i] = ask(i as u32 + 1, budget, PERIOD);
-    }
+        ask(i as u32 + 1, budget, PERIOD)
+    });
     println!(rt; "32 reservations on one processor")?;
     show(rt, 1, &calls)
 }
@@ -99,25 +100,24 @@ fn show_admission(rt: &HostRuntime, r: &Result<Admission, RequestFault>) -> io::
             }
             Ok(())
         }
-        Err(fault) => {
-            let number = fault.number();
-            println!(rt; "  refused {number}")
-        }
+        Err(fault) => show_refusal(rt, fault),
     }
 }
 
 fn show_withdrawal(rt: &HostRuntime, r: &Result<Gathered, NamingFault>) -> io::Result<()> {
     match r {
         Ok(_) => println!(rt; "  gone"),
-        Err(fault) => {
-            let number = fault.number();
-            println!(rt; "  refused {number}")
-        }
+        Err(fault) => show_refusal(rt, fault),
     }
 }
 
+fn show_refusal<F: Numbered>(rt: &HostRuntime, fault: &F) -> io::Result<()> {
+    let number = fault.number();
+    println!(rt; "  refused {number}")
+}
+
 fn show_spare(rt: &HostRuntime, outcome: &Outcome<SamePeriod, OddFirst>) -> io::Result<()> {
-    for (i, processor) in outcome.board.processors.as_slice().iter().enumerate() {
+    for (i, processor) in outcome.board.plan.processors.iter().enumerate() {
         let number = i + 1;
         let rows = processor.rows.len();
         let spare = processor.spare();

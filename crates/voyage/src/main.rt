@@ -4,7 +4,8 @@
 use board::admission::Admission;
 use board::gathered::Gathered;
 use judges::demand::Demand;
-use model::fault::{NamingFault, RequestFault};
+use model::fault::{NamingFault, Numbered, RequestFault};
+use model::wanted::Wanted;
 use placement::best::Best;
 use promise::call::{Answer, Call};
 use promise::history::run;
@@ -15,6 +16,15 @@ use store::fault::BufferFault;
 const IMAGE: [u8; 26] = [
     1, 2, 1, 0, 1, 0, 0, 0, 0, 0, 7, 0, 0, 0, 2, 0, 0, 0, 4, 0, 0, 0, 4, 0, 0, 0,
 ];
+
+fn ask(key: u32, budget: u32, deadline: u32, period: u32) -> Call<'static> {
+    Call::Admit(Wanted {
+        key,
+        budget,
+        deadline,
+        period,
+    })
+}
 
 fn show(rt: &HostRuntime, answer: &Answer) -> io::Result<()> {
     match answer {
@@ -35,10 +45,7 @@ fn show_admission(rt: &HostRuntime, r: &Result<Admission, RequestFault>) -> io::
             }
             Ok(())
         }
-        Err(fault) => {
-            let number = fault.number();
-            println!(rt; "refused {number}")
-        }
+        Err(fault) => show_refusal(rt, fault),
     }
 }
 
@@ -50,11 +57,13 @@ fn show_withdrawal(rt: &HostRuntime, r: &Result<Gathered, NamingFault>) -> io::R
             }
             Ok(())
         }
-        Err(fault) => {
-            let number = fault.number();
-            println!(rt; "refused {number}")
-        }
+        Err(fault) => show_refusal(rt, fault),
     }
+}
+
+fn show_refusal<F: Numbered>(rt: &HostRuntime, fault: &F) -> io::Result<()> {
+    let number = fault.number();
+    println!(rt; "refused {number}")
 }
 
 fn show_load(rt: &HostRuntime, r: &Result<(), BufferFault>) -> io::Result<()> {
@@ -70,36 +79,16 @@ fn show_load(rt: &HostRuntime, r: &Result<(), BufferFault>) -> io::Result<()> {
 
 fn main(rt: HostRuntime) -> io::Result<()> {
     let calls = [
-        Call::Admit {
-            key: 1,
-            budget: 6,
-            deadline: 10,
-            period: 10,
-        },
-        Call::Admit {
-            key: 2,
-            budget: 6,
-            deadline: 10,
-            period: 10,
-        },
-        Call::Admit {
-            key: 3,
-            budget: 10,
-            deadline: 20,
-            period: 20,
-        },
+        ask(1, 6, 10, 10),
+        ask(2, 6, 10, 10),
+        ask(3, 10, 20, 20),
         Call::Withdraw { key: 1 },
         Call::Withdraw { key: 9 },
         Call::Load { image: &IMAGE },
         Call::Load {
             image: &IMAGE[0..25],
         },
-        Call::Admit {
-            key: 7,
-            budget: 1,
-            deadline: 1,
-            period: 1,
-        },
+        ask(7, 1, 1, 1),
     ];
     let Ok(judge) = Demand::new(1, 0) else {
         return println!(rt; "no such judge");

@@ -1,36 +1,29 @@
-use Rattle.std.proofs.Common.{[], replicate, Ok, Err, ap, ◌∙◌, subst₂, inr}
+use Rattle.std.proofs.Common.{◌≡◌, [], replicate, Err, sym, ap, ◌∙◌, subst, subst₂, inr, refl, rules}
 use Rattle.model.specs.Refusal.{setup_number}
 use Rattle.model.specs.Scale.{scale}
 use Rattle.judges.specs.Demand.{demand_yes}
 use Rattle.board.specs.Plan.{plan}
 use Rattle.store.specs.Load.{Loaded}
+use Rattle.exports.specs.declared.refusal.Refusal.{Refusal}
 use Rattle.exports.specs.Judging.{numbered}
+use Rattle.exports.specs.Boards.{Opened}
 use Rattle.exports.proofs.opening.open.Goals as goal
 
-pub returns-in-Ok-load : goal.returns-in-Ok-load
-returns-in-Ok-load c =
-    let sized = c.in-Ok.ensures in
-    let started = c.in-Ok-board.ensures in
-    let said = c.in-Ok-load.ensures in (
-      ap (numbered setup_number) sized.0,
-      ap (λ j. j.steps) (said.judge ∙ started.1) ∙ sized.2,
-      ap (λ j. j.refinements) (said.judge ∙ started.1) ∙ sized.3,
-      subst₂ (λ n before. Loaded (demand_yes scale n) c.args.image.now before (Ok tt) (plan c.load.new.board))
-          (ap (λ j. j.steps) started.1 ∙ sized.2) (started.0 ∙ ap (λ p. replicate p []) sized.1) said.loaded,
-    )
-
-pub returns-in-Err-load : goal.returns-in-Err-load
-returns-in-Err-load c =
-    let sized = c.in-Ok.ensures in
-    let started = c.in-Ok-board.ensures in
-    let said = c.in-Err-load.ensures in
+pub returns-in_err-load : goal.returns-in_err-load
+returns-in_err-load c =
+    let sized = c.in_ok-sizes.ensures in
+    let started = c.in_ok-board.ensures in
+    let fault = c.in_err-load.field-0.0 in
+    let gone : c.from_residual-in_err-load.result ≡ Err (Refusal.Image fault) = search rules in
+    subst (Opened c.args.setting.now c.args.image.now) (sym gone) (
     inr (
       ap (numbered setup_number) sized.0,
       inr (
-        c.in-Err-load.fault,
+        fault,
         plan c.load.new.board,
-        subst₂ (λ n before. Loaded (demand_yes scale n) c.args.image.now before (Err c.in-Err-load.fault) (plan c.load.new.board))
-            (ap (λ j. j.steps) started.1 ∙ sized.2) (started.0 ∙ ap (λ p. replicate p []) sized.1) said.loaded,
-        c.number-in-Err-load.ensures,
+        subst₂ (λ n before. Loaded (demand_yes scale n) c.args.image.now before (Err fault) (plan c.load.new.board))
+            (ap (λ j. j.steps) started.1 ∙ sized.2) (started.0 ∙ ap (λ p. replicate p []) sized.1) c.in_err-load.ensures.loaded,
+        refl,
       ),
+    )
     )

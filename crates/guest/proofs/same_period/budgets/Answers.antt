@@ -1,11 +1,12 @@
-use Rattle.std.proofs.Common.{arith}
-use Rattle.guest.specs.Together.{budgets}
-use Rattle.guest.proofs.Walk.{left_more, left_none}
+use Rattle.std.proofs.Common.{rules, arith, ◌≡◌, ◌<◌, ◌^◌, ◌∙◌, sum_by}
+use Rattle.guest.proofs.Sums.{budgets_sum, budgets_most}
 use Rattle.guest.proofs.same_period.budgets.Goals as goal
 
-pub loop-x-preserved : goal.loop-x-preserved
-loop-x-preserved c =
-    omega (arith, left_more budgets c.args.list.now c.loop-x.x-index c.x-item.result c.loop-x-test.true c.x-item.is)
+pub sum-requires-clause-fits : goal.sum-requires-clause-fits
+sum-requires-clause-fits c =
+    let bounded : sum_by (λ x. x.budget) c.args.list.now < 2 ^ 32 = omega (arith, budgets_most c.args.list.now) in search rules
 
 pub returns : goal.returns
-returns c = omega (arith, left_none budgets c.args.list.now c.loop-x.x-index c.loop-x-test.false)
+returns c =
+    let chained : c.sum.result ≡ sum_by (λ x. x.budget) c.args.list.now = search rules in
+    chained ∙ budgets_sum c.args.list.now

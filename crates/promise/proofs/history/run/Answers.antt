@@ -28,7 +28,7 @@ loop-call-preserved g c =
     let inv = c.loop-call.invariant in
     let calls = c.args.calls.now in
     let i = c.loop-call.call-index in
-    let call = get_or calls i (Call.Withdraw 0) in
+    let call = get_or calls i (Call.Admit (record { key = 0; budget = 0; deadline = 0; period = 0 })) in
     let before = plan c.loop-call.outcome.board in
     let next = plan c.make-answer.new.board in
     let derived : Derived (meant g.P.Rank.Rank.first (g.P.Placement.ranks b.rule) (g.J.Judge.accepts b.judge) (g.J.SizingJudge.allows b.judge)) before call c.make-answer.result next =
@@ -39,7 +39,7 @@ loop-call-preserved g c =
       c.make-answer.ensures.judge ∙ inv.2,
       c.make-answer.ensures.rule ∙ inv.3,
       subst₂ (λ (cs : List Call) (said : List Answer). History (meant g.P.Rank.Rank.first (g.P.Placement.ranks b.rule) (g.J.Judge.accepts b.judge) (g.J.SizingJudge.allows b.judge)) (plan b) cs said next)
-          (sym (take_more calls i (Call.Withdraw 0) c.loop-call-test.true)) (sym c.push_reserved.ensures.items) (history_push call c.make-answer.result inv.4 derived),
+          (sym (take_more calls i (Call.Admit (record { key = 0; budget = 0; deadline = 0; period = 0 })) c.loop-call-test.true)) (sym c.push_reserved.ensures.items) (history_push call c.make-answer.result inv.4 derived),
     )
 
 pub returns : goal.returns
