@@ -5,8 +5,7 @@ use Rattle.std.proofs.lemmas.List.Sums.{sum_by-cons}
 use Rattle.model.specs.Scale.{scale}
 use Rattle.model.specs.Share.{share, shares}
 use Rattle.model.proofs.Bounds.{share_le}
-use Rattle.model.specs.Row.{is_tail, due, timings}
-use Rattle.model.specs.declared.timing.Timing.{Timing}
+use Rattle.model.specs.Row.{is_tail, timings}
 use Rattle.model.specs.declared.row.Row.{Row}
 use Rattle.processor.specs.Keys.{is_of, owners}
 use Rattle.processor.specs.Gathering.{sum_on}
@@ -24,16 +23,6 @@ shares_sum = is_sum_by (λ rows. shares scale (timings rows)) (λ row. share sca
 pub shares_few : (rows : List Row) → shares scale (timings rows) ≤ length rows * scale
 shares_few [] = omega arith
 shares_few (row ∷ rows) = omega (arith, share_le scale row.timing, shares_few rows)
-
-pub budget_le : (x : Timing) → x.budget ≤ 100000
-budget_le x = omega arith
-
-pub due_le : (row : Row) → due row ≤ 100000
-due_le row = le (is_tail row.kind) row.timing
-  where
-    le : (tail : Bool) (x : Timing) → cond tail x.budget x.deadline ≤ 100000
-    le true x = budget_le x
-    le false x = omega arith
 
 -- a measure of the rows of a reservation
 pub sum_on_sum : (f : Row → ℕ) (key : ℕ) (rows : List Row) → sum_on f key rows ≡ sum_by f (filter (is_of key) rows)

@@ -1,5 +1,7 @@
 // What a withdrawal asks of a processor, and takes from it: a reservation's rows, and which reservation is to be gathered.
-ghost use Rattle.std.specs.Prelude.{◌≡◌, ◌≤◌, [], ◌∷◌, ◌++◌, None};
+ghost use Rattle.std.specs.Prelude.{◌≡◌, ℕ, ◌≤◌, [], ◌∷◌, ◌++◌, None};
+ghost use Rattle.std.specs.Fn.{FnReturnsAt};
+ghost use Rattle.model.specs.declared.row.Row.{Row};
 ghost use Rattle.model.specs.Row.{timings, due};
 ghost use Rattle.processor.specs.Rows.{rows_of};
 ghost use Rattle.processor.specs.Few.{held};
@@ -53,8 +55,7 @@ impl Processor {
         ensures value { result ≡ sum_on (λ row. row.timing.budget) key (rows_of self.now) }
         ensures bound { result ≤ 3200000 }
     {
-        let own = self.rows.iter().filter(|row| row.key == key);
-        own.map(|row| row.timing.budget).sum()
+        self.sum_of(key, |row| row.timing.budget)
     }
 
     // What a reservation's rows here add to its deadline.
@@ -62,8 +63,20 @@ impl Processor {
         ensures value { result ≡ sum_on due key (rows_of self.now) }
         ensures bound { result ≤ 3200000 }
     {
+        self.sum_of(key, |row| row.due())
+    }
+
+    // The sum of a measure over a reservation's rows here.
+    fn sum_of<F: Fn(&Row) -> u32>(&self, key: u16, measure: F) -> u32
+        ghost of: { Row → ℕ }
+        requires calls { F.IsAlwaysCallable measure }
+        requires measures { (row : Row) (n : ℕ) → FnReturnsAt F.Fn measure row n → n ≡ of row }
+        requires most { (row : Row) → of row ≤ 100000 }
+        ensures value { result ≡ sum_on of key (rows_of self.now) }
+        ensures bound { result ≤ 3200000 }
+    {
         let own = self.rows.iter().filter(|row| row.key == key);
-        own.map(|row| row.due()).sum()
+        own.map(|row| measure(row)).sum()
     }
 
     // Whether the judge accepts the rows here with this timing in place of a reservation's.
