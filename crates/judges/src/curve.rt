@@ -1,6 +1,5 @@
 // The demand curve of a list in numbers. Demand never passes the time, so nothing leaves 64 bits.
-ghost use Rattle.std.specs.Prelude.{◌≡◌, ◌*◌, ◌≤◌, map, length, take, slice_get};
-ghost use Rattle.std.specs.Option.{option_map_or};
+ghost use Rattle.std.specs.Prelude.{◌≡◌, ◌*◌, ◌≤◌, map, length, take};
 ghost use Rattle.model.specs.Scale.{scale};
 ghost use Rattle.model.specs.Share.{share, shares};
 ghost use Rattle.model.specs.Demand.{exact};
@@ -10,7 +9,6 @@ ghost use Rattle.judges.specs.Demand.{fits};
 
 use model::share::SCALE;
 use model::timing::Timing;
-use std::array;
 
 // The approximate demand of a list: exact for so many steps of each timing, and from there on a line.
 #[derive(Drop)]
@@ -34,7 +32,7 @@ impl<'a> Curve<'a> {
         Curve {
             list,
             steps,
-            slopes: array::from_fn(|i| share_at(list, i)),
+            slopes: slopes(list),
         }
     }
 
@@ -54,7 +52,7 @@ impl<'a> Curve<'a> {
         ensures { result ≡ approximates scale self.now.steps self.now.list.now t }
     {
         let mut sum = 0;
-        for (x, slope) in self.list.iter().zip(&self.slopes) {
+        for (x, slope) in self.list.iter().zip(&self.slopes[..self.list.len()]) {
             sum += approximate(x, *slope, self.steps, t);
         }
         sum
@@ -75,11 +73,17 @@ impl<'a> Curve<'a> {
     }
 }
 
-// The share of the timing at an index, and 0 past the last.
-fn share_at(list: &[Timing], i: usize) -> u32
-    ensures { result ≡ option_map_or (share scale) (slice_get list.now i) 0 }
+// The share of each timing, in the order of the list.
+fn slopes(list: &[Timing]) -> [u32; 32]
+    requires { length list.now ≤ 32 }
+    ensures { take (length list.now) result ≡ map (share scale) list.now }
 {
-    list.get(i).map_or(0, |x| x.share() as u32)
+    let mut slopes = [0; 32];
+    // By index: `from_fn` takes 40 ns longer, and through `iter_mut().zip(..)` no proof knows what is written.
+    for (i, x) in list.iter().enumerate() {
+        slopes[i] = x.share() as u32;
+    }
+    slopes
 }
 
 // The demand of one timing: exact before check-point `steps`, from there on the line.

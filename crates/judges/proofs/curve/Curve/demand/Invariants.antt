@@ -11,6 +11,6 @@ invariant-loop-x l =
     let rest = iter_rest (zip_first l.x-iterator) in
     let slopes = iter_rest (zip_second l.x-iterator) in record {
       left : l.sum + approximates scale l.self.steps rest l.t ≡ approximates scale l.self.steps l.self.list.now l.t;
-      paired : take (length rest) slopes ≡ map (share scale) rest;
+      paired : slopes ≡ map (share scale) rest;
       few : l.sum + scale * l.t * length rest ≤ 32 * (scale * l.t);
     }
