@@ -1,11 +1,13 @@
 // The demand curve of a list in numbers. Demand never passes the time, so nothing leaves 64 bits.
-ghost use Rattle.std.specs.Prelude.{◌≡◌, ◌*◌, ◌≤◌, map, length, take};
+ghost use Rattle.std.specs.Prelude.{◌≡◌, ◌*◌, ◌≤◌, suc, map, length, take};
+ghost use Rattle.std.specs.List.{list_all, range_with_len};
 ghost use Rattle.model.specs.Scale.{scale};
 ghost use Rattle.model.specs.Share.{share, shares};
 ghost use Rattle.model.specs.Demand.{exact};
 ghost use Rattle.judges.specs.Approximate.{point, approximate, approximates};
 ghost use Rattle.judges.specs.Allowance.{slack};
 ghost use Rattle.judges.specs.Demand.{fits};
+ghost use Rattle.judges.specs.Table.{Slacks};
 
 use model::share::SCALE;
 use model::timing::Timing;
@@ -15,7 +17,7 @@ use model::timing::Timing;
 pub(crate) struct Curve<'a> {
     pub(crate) list: &'a [Timing],
     pub(crate) steps: u8,
-    // The slope of each timing's line is its share.
+    // The slope of each timing's line is its share: an array for the most timings, since no call takes memory.
     slopes: [u32; 32],
     ghost few: { length list.now ≤ 32 },
     ghost stepped: { steps ≤ 9 },
@@ -48,9 +50,11 @@ impl<'a> Curve<'a> {
     }
 
     // The demand within t ticks.
+    #[tactic(auto, using(crate::specs::ApproximateLemmas::approximate_within))]
     pub(crate) fn demand(&self, t: u32) -> u64
         ensures { result ≡ approximates scale self.now.steps self.now.list.now t }
     {
+        // A loop: of `zip(..).map(..).sum()` no proof was found.
         let mut sum = 0;
         for (x, slope) in self.list.iter().zip(&self.slopes[..self.list.len()]) {
             sum += approximate(x, *slope, self.steps, t);
@@ -59,17 +63,42 @@ impl<'a> Curve<'a> {
     }
 
     // Whether it fits t ticks.
-    pub(crate) fn fits(&self, t: u32) -> bool
+    fn fits(&self, t: u32) -> bool
         ensures { result ≡ fits scale self.now.steps self.now.list.now t }
     {
         self.demand(t) <= SCALE * t as u64
     }
 
     // What it leaves unused of them.
-    pub(crate) fn slack(&self, t: u32) -> u64
+    fn slack(&self, t: u32) -> u64
         ensures { result ≡ slack scale self.now.steps self.now.list.now t }
     {
         (SCALE * t as u64).saturating_sub(self.demand(t))
+    }
+
+    // Whether the demand fits at the check-points of each of these rows.
+    pub(crate) fn fits_rows(&self, rows: &[Timing]) -> bool
+        ensures { result ≡ list_all (λ x. list_all (λ k. fits scale self.now.steps self.now.list.now (point x k)) (range_with_len 0 (suc self.now.steps))) rows.now }
+    {
+        rows.iter().all(|x| self.fits_points(x))
+    }
+
+    // Whether it fits at those of one row, which has one more than there are retained steps.
+    fn fits_points(&self, x: &Timing) -> bool
+        ensures { result ≡ list_all (λ k. fits scale self.now.steps self.now.list.now (point x.now k)) (range_with_len 0 (suc self.now.steps)) }
+    {
+        (0..self.steps + 1).all(|k| self.fits(point(x, k)))
+    }
+
+    // The slack at each check-point of a timing, in an array for the most that there may be.
+    pub(crate) fn slacks(&self, x: &Timing) -> [u64; 10]
+        ensures { Slacks scale self.now.steps self.now.list.now x.now (suc self.now.steps) result }
+    {
+        let mut row = [0; 10];
+        for (k, free) in row[..=self.steps as usize].iter_mut().enumerate() {
+            *free = self.slack(point(x, k as u8));
+        }
+        row
     }
 }
 
