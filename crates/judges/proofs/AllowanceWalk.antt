@@ -1,10 +1,9 @@
 -- The least of the rooms, taken one after another. Assumes nothing.
-use Rattle.std.proofs.Common.{◌≡◌, ℕ, zero, suc, ◌+◌, ◌-◌, ◌*◌, ◌/◌, ◌<◌, ◌≤◌, min, map, List, [], ◌∷◌, length, get_or, drop, sym, refl, ap, ◌∙◌, ap₂, mul-le-mul_right, add-one, arith}
+use Rattle.std.proofs.Common.{div-lt_iff_lt-mul, le-div_iff_mul-le, ◌≡◌, ℕ, zero, suc, ◌+◌, ◌-◌, ◌*◌, ◌/◌, ◌<◌, ◌≤◌, min, map, List, [], ◌∷◌, length, get_or, drop, sym, refl, ap, ◌∙◌, ap₂, mul-le-mul_right, add-one, arith}
 use Rattle.std.specs.List.{fold}
 use Rattle.model.specs.declared.timing.Timing.{Timing}
-use Rattle.judges.specs.Approximate.{point, approximates}
-use Rattle.judges.specs.Allowance.{spare_budget, before_deadline, before_deadlines, step_room, within_steps, slack, point_room, within_points, within_rows, fixed_room, turns}
-use Rattle.judges.proofs.Walk.{left_more}
+use Rattle.judges.specs.Approximate.{point}
+use Rattle.judges.specs.Allowance.{before_deadline, before_deadlines, slack, point_room, within_points, within_rows}
 
 deadlines_min : (l : List Timing) (a c : ℕ) → before_deadlines l (min a c) ≡ min a (before_deadlines l c)
 deadlines_min [] a c = refl
@@ -46,3 +45,6 @@ module _ (s n : ℕ) (l : List Timing) (t b : ℕ) where
       → left ≡ within_points s n l t b x (suc n) room → within_rows s n l t b rest left ≡ within_rows s n l t b rows room
   row_passed rows rest x room left e is =
       ap (within_rows s n l t b rest) is ∙ rows_points rest x (suc n) room ∙ sym (ap (λ m. within_rows s n l t b m room) e)
+
+-- whether a number is at most a quotient, told by a product
+pub ruleset quotients = (le-div_iff_mul-le, div-lt_iff_lt-mul)

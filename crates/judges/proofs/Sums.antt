@@ -1,6 +1,6 @@
 -- Sums over a list of timings, in the library's word and by cases. Assumes nothing.
-use Rattle.std.proofs.Common.{◌≡◌, ℕ, ◌+◌, ◌*◌, ◌≤◌, List, [], ◌∷◌, map, length, take, refl, sym, ◌∙◌, ap, sum, sum_by, mul-le-mul_left, arith}
-use Rattle.std.proofs.lemmas.List.Sums.{sum_by-cons, sum-map}
+use Rattle.std.proofs.Common.{◌≡◌, ℕ, ◌+◌, ◌*◌, ◌≤◌, List, [], ◌∷◌, map, length, refl, ◌∙◌, ap, sum, sum_by, mul-le-mul_left, arith}
+use Rattle.std.proofs.lemmas.List.Sums.{sum_by-cons}
 use Rattle.model.specs.declared.timing.Timing.{Timing}
 use Rattle.model.specs.Share.{share, density, shares, densities}
 use Rattle.model.proofs.Bounds.{share_le}

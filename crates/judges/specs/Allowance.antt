@@ -56,11 +56,6 @@ fixed_room s n l t c = within_steps s n l t n (before_deadlines l (min c (spare_
 abbrev pub refined : ℕ → ℕ → List Timing → ℕ → ℕ → ℕ → ℕ
 refined s n l t c b = within_rows s n l t b l (fixed_room s n l t c)
 
--- what is found in k turns: nothing before the first, and each starts from what the one before has found
-abbrev pub turns : ℕ → ℕ → List Timing → ℕ → ℕ → ℕ → ℕ
-turns s n l t c zero = 0
-turns s n l t c (suc k) = refined s n l t c (turns s n l t c k)
-
 -- the first result starts from 0, and each refinement from the result before
 abbrev pub refinements : ℕ → ℕ → List Timing → ℕ → ℕ → ℕ → ℕ
 refinements s n l t c zero = refined s n l t c 0

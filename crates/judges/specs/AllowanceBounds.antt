@@ -30,9 +30,6 @@ spare_le s l t = div-le_of_le-mul s (mul-le-mul_right t (sub-le s (shares s l)))
 pub fixed_le : (s n : ℕ) (l : List Timing) (t c : ℕ) → fixed_room s n l t c ≤ before_deadlines l (min c (spare_budget s l t))
 fixed_le s n l t c = steps_le s n l t n (before_deadlines l (min c (spare_budget s l t)))
 
-pub fixed_le_period : (s n : ℕ) (l : List Timing) (t c : ℕ) → fixed_room s n l t c ≤ t
-fixed_le_period s n l t c = omega (arith, fixed_le s n l t c, deadlines_le l (min c (spare_budget s l t)), spare_le s l t)
-
 pub refined_le_fixed : (s n : ℕ) (l : List Timing) (t c b : ℕ) → refined s n l t c b ≤ fixed_room s n l t c
 refined_le_fixed s n l t c b = rows_le s n l t b l (fixed_room s n l t c)
 

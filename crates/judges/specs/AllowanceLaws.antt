@@ -1,12 +1,12 @@
 -- The laws of the demand judge's tail allowance, at every scale, number of steps and number of refinements. Assumes nothing.
 use Rattle.std.specs.Prelude.{◌≡◌, ℕ, zero, suc, ◌-◌, ◌*◌, ◌<◌, ◌≤◌, true, ◌||◌, ltb, List, [], ◌∷◌, ◌++◌, length, ◌==◌, nat_lt, refl}
-use Rattle.std.proofs.Common.{sym, ◌∙◌, inl, inr, zero-le, arith, ap}
+use Rattle.std.proofs.Common.{sym, ◌∙◌, inl, inr, zero-le, arith}
 use Rattle.std.proofs.Math.Nat.{div-zero}
-use Rattle.std.proofs.lemmas.Bool.{cases_Bool, cond_both, cond-true, cond-false, or_parts, or_from, eqb-false, ltb-false, ne_eqb, le-ltb}
+use Rattle.std.proofs.lemmas.Bool.{cases_Bool, cond_both, cond-true, cond-false, or_parts, eqb-false, ltb-false}
 use Rattle.model.specs.declared.timing.Timing.{Timing}
 use Rattle.model.specs.Share.{shares}
 use Rattle.judges.specs.Demand.{demand_yes}
-use Rattle.judges.specs.Allowance.{spare_budget, refined, turns, refinements, demand_allowance}
+use Rattle.judges.specs.Allowance.{spare_budget, refined, refinements, demand_allowance}
 use Rattle.judges.specs.AllowanceBounds.{refined_le_cap, refined_le_spare, refined_le_period}
 use Rattle.judges.specs.AllowanceGrows.{refinements_grow}
 use Rattle.judges.specs.AllowanceTaken.{tail_taken}
@@ -25,19 +25,6 @@ pub refinements_le_period : (s n : ℕ) (l : List Timing) (t c r : ℕ) → refi
 refinements_le_period s n l t c zero = refined_le_period s n l t c 0
 refinements_le_period s n l t c (suc r) = refined_le_period s n l t c (refinements s n l t c r)
 
--- the first turn is the first result, and each turn more a refinement
-pub turns_refine : (s n : ℕ) (l : List Timing) (t c r : ℕ) → turns s n l t c (suc r) ≡ refinements s n l t c r
-turns_refine s n l t c zero = refl
-turns_refine s n l t c (suc r) = ap (refined s n l t c) (turns_refine s n l t c r)
-
-pub turns_le_cap : (s n : ℕ) (l : List Timing) (t c k : ℕ) → turns s n l t c k ≤ c
-turns_le_cap s n l t c zero = zero-le
-turns_le_cap s n l t c (suc k) = refined_le_cap s n l t c (turns s n l t c k)
-
-pub turns_le_period : (s n : ℕ) (l : List Timing) (t c k : ℕ) → turns s n l t c k ≤ t
-turns_le_period s n l t c zero = zero-le
-turns_le_period s n l t c (suc k) = refined_le_period s n l t c (turns s n l t c k)
-
 pub allowance_capped : (s n r : ℕ) (l : List Timing) (t c : ℕ) → demand_allowance s n r l t c ≤ c
 allowance_capped s n r l t c =
     cond_both (c == 0 || (t == 0 || (nat_lt 100000 t || nat_lt 31 (length l)))) 0 (refinements s n l t c r) (λ v. v ≤ c)
@@ -49,15 +36,6 @@ allowance_periodic s n r l t c =
     cond_both (c == 0 || (t == 0 || (nat_lt 100000 t || nat_lt 31 (length l)))) 0 (refinements s n l t c r) (λ v. v ≤ t)
     (λ e. zero-le)
     (λ e. refinements_le_period s n l t c r)
-
-pub allowance_open : (s n r : ℕ) (l : List Timing) (t c : ℕ) → 0 < c → 0 < t → t ≤ 100000 → length l ≤ 31
-    → demand_allowance s n r l t c ≡ refinements s n l t c r
-allowance_open s n r l t c cp tp short few =
-    let outside = nat_lt 100000 t || ltb 31 (length l) in
-    cond-false (c == 0 || (t == 0 || outside)) 0 (refinements s n l t c r)
-    (or_from (c == 0) (t == 0 || outside) (ne_eqb c 0 (omega arith))
-    (or_from (t == 0) outside (ne_eqb t 0 (omega arith))
-    (or_from (nat_lt 100000 t) (nat_lt 31 (length l)) (le-ltb 100000 t short) (le-ltb 31 (length l) few))))
 
 -- what is asked, where something is offered
 pub record Asked (s n r : ℕ) (l : List Timing) (t c : ℕ) : Type 0 where

@@ -7,6 +7,7 @@ use Rattle.model.specs.declared.timing.Timing.{Timing}
 use Rattle.model.specs.Share.{share, density, shares, densities}
 use Rattle.model.specs.Demand.{exact, demand}
 use Rattle.model.specs.Within.{Within, none, keep, skip, swap, both}
+use Rattle.model.proofs.Bounds.{density_le}
 use Rattle.model.proofs.Ceiling.{ceiling_reaches, ceiling_near, ceiling_least}
 use Rattle.judges.specs.Approximate.{point, approximate, approximates}
 
@@ -270,19 +271,5 @@ approximates_densities s n (x ∷ l) t =
 
 -- sizes
 
--- demand never passes the time, so neither does the product that is formed for it
-pub exact_within : (x : Timing) (t : ℕ) → x.deadline ≤ t → x.budget * (1 + (t - x.deadline) / x.period) ≤ t
-exact_within x t h =
-    let q : ℕ = (t - x.deadline) / x.period in
-    let paid : x.budget * q ≤ x.period * q = mul-le-mul_right q (omega arith) in
-    omega (arith, mul-add x.budget 1 q, mul_comm x.period q, div-mul-le_self (t - x.deadline) x.period)
-
-pub density_within : (s : ℕ) (x : Timing) → density s x ≤ s
-density_within s x =
-    ceiling_least (x.budget * s) x.deadline s (omega arith) (omega (arith, mul-le-mul_right s x.fits, mul_comm x.deadline s))
-
 pub approximate_within : (s n : ℕ) (x : Timing) (t : ℕ) → approximate s n x t ≤ s * t
-approximate_within s n x t = omega (arith, approximate_density s n x t, mul-le-mul_right t (density_within s x))
-
-pub point_within : (x : Timing) (k : ℕ) → k ≤ 9 → point x k ≤ 1000000
-point_within x k h = omega (arith, mul-le-mul_right x.period h)
+approximate_within s n x t = omega (arith, approximate_density s n x t, mul-le-mul_right t (density_le s x))

@@ -7,10 +7,11 @@ use Rattle.model.specs.declared.timing.Timing.{Timing}
 use Rattle.model.specs.Share.{shares, densities}
 use Rattle.model.specs.Demand.{demand}
 use Rattle.model.specs.Within.{Within, none, keep, skip, swap, both}
+use Rattle.model.proofs.Bounds.{density_le}
 use Rattle.judges.specs.Approximate.{point, approximates}
 use Rattle.judges.specs.Density.{density_yes, density_allowance}
 use Rattle.judges.specs.Demand.{fits_points, fits_rows, demand_yes}
-use Rattle.judges.specs.ApproximateLemmas.{approximate_before, approximate_next, approximates_fall, shares_fall, densities_fall, length_falls, demand_approximates, shares_densities, approximates_densities, density_within}
+use Rattle.judges.specs.ApproximateLemmas.{approximate_before, approximate_next, approximates_fall, shares_fall, densities_fall, length_falls, demand_approximates, shares_densities, approximates_densities}
 
 -- approximate demand within the time is exact demand within the time
 within_time : (s n : ℕ) (l : List Timing) (t : ℕ) → 0 < s → approximates s n l t ≤ s * t → demand l t ≤ t
@@ -145,5 +146,5 @@ density_fewer s {m} {l} w e =
 
 -- a tail is offered to an empty list alone, and one timing is always within the scale
 pub density_taken : (s : ℕ) (l : List Timing) (x : Timing) (c : ℕ) → x.budget ≡ density_allowance l x.period c → density_yes s (l ++ (x ∷ [])) ≡ true
-density_taken s [] x c e = dense_from s (x ∷ []) (omega arith) (omega (arith, density_within s x))
+density_taken s [] x c e = dense_from s (x ∷ []) (omega arith) (omega (arith, density_le s x))
 density_taken s (y ∷ l) x c e = absurd (omega arith)

@@ -2,14 +2,12 @@
 // SCALE * 10^6, and no product reaches 3 * 10^17: nothing leaves 64 bits.
 ghost use Rattle.std.specs.Prelude.{◌≡◌, suc, ◌*◌, ◌/◌, ◌<◌, ◌≤◌, min, length};
 ghost use Rattle.model.specs.Scale.{scale};
-ghost use Rattle.judges.specs.Allowance.{spare_budget, before_deadline, before_deadlines, within_steps, slack, point_room, within_points, within_rows, fixed_room, refinements};
-ghost use Rattle.judges.specs.Approximate.{point};
+ghost use Rattle.judges.specs.Allowance.{spare_budget, before_deadline, before_deadlines, within_steps, point_room, within_points, within_rows, fixed_room, refinements};
 ghost use Rattle.judges.specs.Table.{Slacks, Table};
 
 use crate::curve::{Curve, point};
 use model::share::SCALE;
 use model::timing::Timing;
-use std::array;
 
 // How long a tail may be: no longer than any period.
 #[derive(Clone, Copy)]
@@ -20,6 +18,7 @@ struct Room {
 
 impl Room {
     // The smaller of this and what so much comes to, shared by so many: where it is this, a product tells so without a division.
+    #[tactic(auto, using(crate::proofs::AllowanceWalk::quotients))]
     fn least(self, free: u64, by: u64) -> Room
         requires { (0 < by) × (by ≤ 2000000) }
         ensures { result.ticks ≡ min self.ticks (free / (scale * by)) }
@@ -59,6 +58,7 @@ impl Tail<'_> {
     }
 
     // What no start value changes.
+    #[tactic(auto, using(crate::specs::AllowanceBounds::spare_le, crate::specs::AllowanceBounds::deadlines_le))]
     fn fixed_room(&self, cap: u32) -> Room
         ensures { result.ticks ≡ fixed_room scale self.now.curve.steps self.now.curve.list.now self.now.period cap }
     {
@@ -75,11 +75,10 @@ impl Tail<'_> {
     }
 
     // What is left at the ends of the tail's first periods, shared by its instances so far, and at most `room`.
-    fn within_steps(&self, spare: u32, room: Room) -> Room
+    fn within_steps(&self, spare: u32, mut room: Room) -> Room
         requires { spare ≡ spare_budget scale self.now.curve.list.now self.now.period }
         ensures { result.ticks ≡ within_steps scale self.now.curve.steps self.now.curve.list.now self.now.period self.now.curve.steps room.ticks }
     {
-        let mut room = room;
         for turns in 1..self.curve.steps as u32 + 1 {
             let end = turns * self.period;
             let time = SCALE * end as u64;
@@ -102,11 +101,10 @@ impl Tail<'_> {
     }
 
     // The longest tail that every check-point of one timing bears, if it is at least `start`, and at most `room`.
-    fn within_points(&self, x: &Timing, row: &[u64; 10], room: Room, start: u32) -> Room
+    fn within_points(&self, x: &Timing, row: &[u64; 10], mut room: Room, start: u32) -> Room
         requires { Slacks scale self.now.curve.steps self.now.curve.list.now x.now (suc self.now.curve.steps) row.now }
         ensures { result.ticks ≡ within_points scale self.now.curve.steps self.now.curve.list.now self.now.period start x.now (suc self.now.curve.steps) room.ticks }
     {
-        let mut room = room;
         for (k, free) in row[..=self.curve.steps as usize].iter().enumerate() {
             room = self.point_room(point(x, k as u8), *free, room, start);
         }
@@ -133,35 +131,16 @@ impl Tail<'_> {
     }
 
     // The slack at each check-point of each timing: no refinement works it out again.
+    #[tactic(auto, using(crate::proofs::AllowanceTable::row_filled))]
     fn slacks(&self) -> [[u64; 10]; 31]
         ensures { Table scale self.now.curve.steps self.now.curve.list.now (length self.now.curve.list.now) result }
     {
         let mut rows = [[0; 10]; 31];
-        // By index: through `iter_mut().zip(..)` no proof knows what has been written.
+        // By index: through `iter_mut().zip(..)` no proof knows what is written.
         for (i, x) in self.curve.list.iter().enumerate() {
             rows[i] = self.curve.slacks(x);
         }
         rows
-    }
-}
-
-impl Curve<'_> {
-    // The slack at each check-point of a timing.
-    fn slacks(&self, x: &Timing) -> [u64; 10]
-        ensures { Slacks scale self.now.steps self.now.list.now x.now (suc self.now.steps) result }
-    {
-        array::from_fn(|k| self.slack_at(x, k))
-    }
-
-    // That at check-point k, and nothing past the last.
-    fn slack_at(&self, x: &Timing, k: usize) -> u64
-        ensures { k ≤ self.now.steps → result ≡ slack scale self.now.steps self.now.list.now (point x.now k) }
-    {
-        if k <= self.steps as usize {
-            self.slack(point(x, k as u8))
-        } else {
-            0
-        }
     }
 }
 
@@ -173,6 +152,7 @@ fn before_deadlines(list: &[Timing], room: u32) -> u32
     list.iter().map(before_deadline).fold(room, u32::min)
 }
 
+// The longest tail that ends before the deadline of x.
 fn before_deadline(x: &Timing) -> u32
     ensures { result ≡ before_deadline x.now }
 {

@@ -1,23 +1,23 @@
 // The demand curve of a list in numbers. Demand never passes the time, so nothing leaves 64 bits.
-ghost use Rattle.std.specs.Prelude.{◌≡◌, ◌*◌, ◌≤◌, map, length, take, slice_get};
-ghost use Rattle.std.specs.Option.{option_map_or};
+ghost use Rattle.std.specs.Prelude.{◌≡◌, ◌*◌, ◌≤◌, suc, map, length, take};
+ghost use Rattle.std.specs.List.{list_all, range_with_len};
 ghost use Rattle.model.specs.Scale.{scale};
 ghost use Rattle.model.specs.Share.{share, shares};
 ghost use Rattle.model.specs.Demand.{exact};
 ghost use Rattle.judges.specs.Approximate.{point, approximate, approximates};
 ghost use Rattle.judges.specs.Allowance.{slack};
 ghost use Rattle.judges.specs.Demand.{fits};
+ghost use Rattle.judges.specs.Table.{Slacks};
 
 use model::share::SCALE;
 use model::timing::Timing;
-use std::array;
 
 // The approximate demand of a list: exact for so many steps of each timing, and from there on a line.
 #[derive(Drop)]
 pub(crate) struct Curve<'a> {
     pub(crate) list: &'a [Timing],
     pub(crate) steps: u8,
-    // The slope of each timing's line is its share.
+    // The slope of each timing's line is its share: an array for the most timings, since no call takes memory.
     slopes: [u32; 32],
     ghost few: { length list.now ≤ 32 },
     ghost stepped: { steps ≤ 9 },
@@ -34,7 +34,7 @@ impl<'a> Curve<'a> {
         Curve {
             list,
             steps,
-            slopes: array::from_fn(|i| share_at(list, i)),
+            slopes: slopes(list),
         }
     }
 
@@ -50,36 +50,69 @@ impl<'a> Curve<'a> {
     }
 
     // The demand within t ticks.
+    #[tactic(auto, using(crate::specs::ApproximateLemmas::approximate_within))]
     pub(crate) fn demand(&self, t: u32) -> u64
         ensures { result ≡ approximates scale self.now.steps self.now.list.now t }
     {
+        // A loop: of `zip(..).map(..).sum()` no proof was found.
         let mut sum = 0;
-        for (x, slope) in self.list.iter().zip(&self.slopes) {
+        for (x, slope) in self.list.iter().zip(&self.slopes[..self.list.len()]) {
             sum += approximate(x, *slope, self.steps, t);
         }
         sum
     }
 
     // Whether it fits t ticks.
-    pub(crate) fn fits(&self, t: u32) -> bool
+    fn fits(&self, t: u32) -> bool
         ensures { result ≡ fits scale self.now.steps self.now.list.now t }
     {
         self.demand(t) <= SCALE * t as u64
     }
 
     // What it leaves unused of them.
-    pub(crate) fn slack(&self, t: u32) -> u64
+    fn slack(&self, t: u32) -> u64
         ensures { result ≡ slack scale self.now.steps self.now.list.now t }
     {
         (SCALE * t as u64).saturating_sub(self.demand(t))
     }
+
+    // Whether the demand fits at the check-points of each of these rows.
+    pub(crate) fn fits_rows(&self, rows: &[Timing]) -> bool
+        ensures { result ≡ list_all (λ x. list_all (λ k. fits scale self.now.steps self.now.list.now (point x k)) (range_with_len 0 (suc self.now.steps))) rows.now }
+    {
+        rows.iter().all(|x| self.fits_points(x))
+    }
+
+    // Whether it fits at those of one row, which has one more than there are retained steps.
+    fn fits_points(&self, x: &Timing) -> bool
+        ensures { result ≡ list_all (λ k. fits scale self.now.steps self.now.list.now (point x.now k)) (range_with_len 0 (suc self.now.steps)) }
+    {
+        (0..self.steps + 1).all(|k| self.fits(point(x, k)))
+    }
+
+    // The slack at each check-point of a timing, in an array for the most that there may be.
+    pub(crate) fn slacks(&self, x: &Timing) -> [u64; 10]
+        ensures { Slacks scale self.now.steps self.now.list.now x.now (suc self.now.steps) result }
+    {
+        let mut row = [0; 10];
+        for (k, free) in row[..=self.steps as usize].iter_mut().enumerate() {
+            *free = self.slack(point(x, k as u8));
+        }
+        row
+    }
 }
 
-// The share of the timing at an index, and 0 past the last.
-fn share_at(list: &[Timing], i: usize) -> u32
-    ensures { result ≡ option_map_or (share scale) (slice_get list.now i) 0 }
+// The share of each timing, in the order of the list.
+fn slopes(list: &[Timing]) -> [u32; 32]
+    requires { length list.now ≤ 32 }
+    ensures { take (length list.now) result ≡ map (share scale) list.now }
 {
-    list.get(i).map_or(0, |x| x.share() as u32)
+    let mut slopes = [0; 32];
+    // By index: `from_fn` takes 40 ns longer, and through `iter_mut().zip(..)` no proof knows what is written.
+    for (i, x) in list.iter().enumerate() {
+        slopes[i] = x.share() as u32;
+    }
+    slopes
 }
 
 // The demand of one timing: exact before check-point `steps`, from there on the line.

@@ -1,13 +1,10 @@
 // The demand judge's yes: the shares fit a processor, and at every check-point the approximate demand fits the time.
-ghost use Rattle.std.specs.Prelude.{◌≡◌, suc};
 ghost use Rattle.model.specs.Scale.{scale};
-ghost use Rattle.std.specs.List.{list_all, range_with_len};
-ghost use Rattle.judges.specs.Approximate.{point};
-ghost use Rattle.judges.specs.Demand.{fits, demand_yes};
+ghost use Rattle.judges.specs.Demand.{demand_yes};
 ghost use Rattle.std.proofs.Common.{arith};
 ghost use Rattle.judges.specs.Judged.{demand_sound, demand_dense, demand_fewer, yes_parts};
 
-use crate::curve::{Curve, point};
+use crate::curve::Curve;
 use crate::demand::Demand;
 use model::judge::Judge;
 use model::share::SCALE;
@@ -31,21 +28,5 @@ impl Judge for Demand {
         }
         let curve = Curve::new(list, self.steps);
         curve.shares() <= SCALE && curve.fits_rows(list)
-    }
-}
-
-impl Curve<'_> {
-    // Whether the demand fits at the check-points of each of these rows.
-    fn fits_rows(&self, rows: &[Timing]) -> bool
-        ensures { result ≡ list_all (λ x. list_all (λ k. fits scale self.now.steps self.now.list.now (point x k)) (range_with_len 0 (suc self.now.steps))) rows.now }
-    {
-        rows.iter().all(|x| self.fits_points(x))
-    }
-
-    // Whether it fits at those of one row, which has one more than there are retained steps.
-    fn fits_points(&self, x: &Timing) -> bool
-        ensures { result ≡ list_all (λ k. fits scale self.now.steps self.now.list.now (point x.now k)) (range_with_len 0 (suc self.now.steps)) }
-    {
-        (0..self.steps + 1).all(|k| self.fits(point(x, k)))
     }
 }

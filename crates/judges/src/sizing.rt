@@ -34,6 +34,7 @@ impl SizingJudge for Demand {
 }
 
 // Every refinement starts from a value that is at most its result.
+#[tactic(auto, using(crate::specs::AllowanceLaws::starts_below))]
 pub fn starts_below() -> u8
     ensures { StartsBelow }
 {

@@ -1,4 +1,4 @@
-use Rattle.std.proofs.Common.{◌≡◌, ◌-◌, suc, ap, ◌∙◌, arith}
+use Rattle.std.proofs.Common.{◌≡◌, ◌-◌, ap, ◌∙◌, arith}
 use Rattle.model.specs.Scale.{scale}
 use Rattle.judges.specs.Allowance.{within_steps}
 use Rattle.judges.proofs.allowance.Tail.within_steps.Goals as goal
