@@ -6,7 +6,7 @@ use Rattle.std.proofs.lemmas.List.{length-take-le}
 use Rattle.processor.specs.Few.{held}
 use Rattle.store.specs.Keys.{firsts, keys}
 use Rattle.store.proofs.Pieces.{keys_sum, keys_le}
-use Rattle.store.proofs.keys.Lists+Row.count_keys.Goals as goal
+use Rattle.store.proofs.keys.Plan.count_keys.Goals as goal
 
 pub sum-requires-clause-fits : goal.sum-requires-clause-fits
 sum-requires-clause-fits c =

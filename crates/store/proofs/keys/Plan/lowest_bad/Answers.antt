@@ -9,7 +9,7 @@ use Rattle.store.specs.InPlace.{all_held}
 use Rattle.store.specs.Keys.{bad_key}
 use Rattle.store.specs.Loading.{all_of}
 use Rattle.store.proofs.Pieces.{flat_all}
-use Rattle.store.proofs.keys.Lists+Row.lowest_bad.Goals as goal
+use Rattle.store.proofs.keys.Plan.lowest_bad.Goals as goal
 
 pub returns : goal.returns
 returns c =
