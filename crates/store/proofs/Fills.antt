@@ -1,13 +1,11 @@
 -- Lists filled one element after the other, and the judge asked about one processor after the other. Assumes nothing.
-use Rattle.std.proofs.Common.{◌≡◌, ℕ, ◌+◌, ◌<◌, Bool, true, false, cond, List, [], ◌∷◌, ◌++◌, map, length, get_or, take, drop, set, Some, Ok, Err, Result, sym, refl, ap, ◌∙◌, arith}
-use Rattle.std.proofs.lemmas.List.{take_more_set, map-id, map_push}
+use Rattle.std.proofs.Common.{◌≡◌, ℕ, ◌+◌, ◌<◌, Bool, true, false, cond, List, [], ◌∷◌, ◌++◌, map, length, get_or, take, drop, Some, Ok, Err, Result, sym, refl, ap, ◌∙◌, arith}
+use Rattle.std.proofs.lemmas.List.{map-id}
 use Rattle.model.specs.declared.timing.Timing.{Timing}
 use Rattle.model.specs.declared.row.Row.{Row}
 use Rattle.model.specs.Row.{timings}
-use Rattle.processor.specs.declared.rows.Processor.{Processor}
 use Rattle.processor.specs.declared.few.Few.{Few}
 use Rattle.processor.specs.Few.{held}
-use Rattle.processor.specs.Rows.{rows_of}
 use Rattle.store.specs.declared.fault.BufferFault.{BufferFault}
 use Rattle.store.specs.declared.fault.BufferRule.{BufferRule}
 use Rattle.store.specs.Fault.{fault}

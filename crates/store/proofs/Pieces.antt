@@ -1,5 +1,5 @@
 -- The tests of a key's rows, one row on. Assumes nothing.
-use Rattle.std.proofs.Common.{◌≡◌, ℕ, zero, suc, ◌+◌, ◌*◌, ◌<◌, ◌≤◌, Bool, true, false, cond, not, ◌&&◌, eqb, leb, List, [], ◌∷◌, ◌++◌, length, map, get_or, drop, sym, refl, ap, ◌∙◌, append_assoc, zero-add, subst, ⊎_elim, arith}
+use Rattle.std.proofs.Common.{◌≡◌, ℕ, zero, suc, ◌+◌, ◌*◌, ◌<◌, ◌≤◌, Bool, true, false, cond, not, ◌&&◌, eqb, List, [], ◌∷◌, ◌++◌, length, map, sym, refl, ap, ◌∙◌, zero-add, subst, ⊎_elim, arith}
 use Rattle.std.specs.Bool.{MatchBool}
 use Rattle.std.proofs.lemmas.List.Recursion.{is_sum_by}
 use Rattle.std.specs.List.{sum_by, flat_map, range_with_len, AllWithin, HoldsAt}
@@ -10,9 +10,8 @@ use Rattle.model.specs.declared.row.Row.{Row}
 use Rattle.model.specs.Row.{kind_number, part, is_tail, due}
 use Rattle.processor.specs.declared.few.Few.{Few}
 use Rattle.processor.specs.Few.{held}
-use Rattle.store.specs.Keys.{of_key, apart, pieces, times, once_each, stretch_of, firsts, keys}
+use Rattle.store.specs.Keys.{times, once_each, stretch_of, firsts, keys}
 use Rattle.store.specs.Loading.{all_of}
-use Rattle.store.proofs.Drops.{left_more, seen_more}
 use Rattle.store.proofs.ByNumber.{length_held}
 
 pub tail_number : (kind : Kind) → eqb (kind_number kind) 2 ≡ is_tail kind

@@ -1,4 +1,4 @@
-use Rattle.std.proofs.Common.{None, Some, refl, sym, ap, ◌∙◌, arith}
+use Rattle.std.proofs.Common.{None, Some, sym, ap, ◌∙◌, arith}
 use Rattle.store.specs.InPlace.{all_held}
 use Rattle.store.specs.Answers.{answered}
 use Rattle.store.proofs.Lowest.{key_is_lowest, key_told, keys_told, none_told}
