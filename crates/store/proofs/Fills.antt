@@ -1,24 +1,16 @@
 -- Lists filled one element after the other, and the judge asked about one processor after the other. Assumes nothing.
-use Rattle.std.proofs.Common.{◌≡◌, ℕ, ◌+◌, ◌<◌, Bool, true, false, cond, List, [], ◌∷◌, ◌++◌, map, length, get_or, take, drop, set, Some, Ok, Err, Result, sym, refl, ap, ◌∙◌, arith}
-use Rattle.std.proofs.lemmas.List.{take_more_set, map-id, map_push}
+use Rattle.std.proofs.Common.{◌≡◌, ℕ, ◌+◌, ◌<◌, Bool, true, false, cond, List, [], ◌∷◌, ◌++◌, map, length, get_or, take, drop, Some, Ok, Err, Result, sym, refl, ap, ◌∙◌, arith}
+use Rattle.std.proofs.lemmas.List.{map-id}
 use Rattle.model.specs.declared.timing.Timing.{Timing}
 use Rattle.model.specs.declared.row.Row.{Row}
 use Rattle.model.specs.Row.{timings}
-use Rattle.processor.specs.declared.rows.Processor.{Processor}
 use Rattle.processor.specs.declared.few.Few.{Few}
 use Rattle.processor.specs.Few.{held}
-use Rattle.processor.specs.Rows.{rows_of}
 use Rattle.store.specs.declared.fault.BufferFault.{BufferFault}
 use Rattle.store.specs.declared.fault.BufferRule.{BufferRule}
 use Rattle.store.specs.Fault.{fault}
 use Rattle.store.specs.Judged.{judge_fault}
 use Rattle.store.proofs.Drops.{seen_more, taken_more}
-
-pub timings_more :
-    (before after : List Timing) (rows : List Row) (i : ℕ) (row : Row) → i < length rows → row ≡ get_or rows i row →
-    after ≡ before ++ (row.timing ∷ []) → before ≡ timings (take i rows) → after ≡ timings (take (i + 1) rows)
-timings_more before after rows i row h is pushed so_far =
-    pushed ∙ (ap (λ l. l ++ (row.timing ∷ [])) so_far ∙ sym (taken_more (λ r. r.timing) rows i row h is))
 
 -- one more row of those that are copied
 pub copied_more :
@@ -27,17 +19,6 @@ pub copied_more :
 copied_more before after rows i row h is pushed so_far =
     pushed ∙ (ap (λ l. l ++ (row ∷ [])) (so_far ∙ sym (map-id (take i rows)))
     ∙ (sym (taken_more (λ (r : Row). r) rows i row h is) ∙ map-id (take (i + 1) rows)))
-
--- one more processor that is refilled
-pub refilled_more :
-    (items : List Processor) (plan : List (Few Row 32)) (i : ℕ) (new : Processor) (x : Few Row 32) (rows : List Row) → i < length items → i < length plan →
-    x ≡ get_or plan i x → rows ≡ held x → rows_of new ≡ rows → map rows_of (take i items) ≡ map held (take i plan) →
-    map rows_of (take (i + 1) (set items i new)) ≡ map held (take (i + 1) plan)
-refilled_more items plan i new x rows within h is same filled so_far =
-    ap (map rows_of) (take_more_set items i new within)
-    ∙ (map_push rows_of (take i items) new
-    ∙ (ap (λ l. l ++ (rows_of new ∷ [])) so_far
-    ∙ (ap (λ q. map held (take i plan) ++ (q ∷ [])) (filled ∙ same) ∙ sym (taken_more held plan i x h is))))
 
 pub judge_at :
     (accepts : List Timing → Bool) (plan : List (Few Row 32)) (i : ℕ) (x : Few Row 32) (b : Bool) → i < length plan → x ≡ get_or plan i x →

@@ -1,5 +1,5 @@
 -- The parts of an image, one row or one processor on, and their lengths. Assumes nothing.
-use Rattle.std.proofs.Common.{◌≡◌, ℕ, ◌+◌, ◌-◌, ◌*◌, ◌<◌, ◌≤◌, List, [], ◌∷◌, ◌++◌, map, length, get_or, drop, sym, refl, ap, ◌∙◌, arith, length-append, length-drop}
+use Rattle.std.proofs.Common.{◌≡◌, ℕ, ◌+◌, ◌-◌, ◌*◌, ◌<◌, ◌≤◌, List, [], ◌∷◌, ◌++◌, map, length, get_or, drop, refl, ◌∙◌, arith, length-append, length-drop}
 use Rattle.model.specs.declared.row.Row.{Row}
 use Rattle.processor.specs.declared.rows.Processor.{Processor}
 use Rattle.processor.specs.Rows.{rows_of}

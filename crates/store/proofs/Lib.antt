@@ -3,7 +3,6 @@ pub mod Buffers
 pub mod Images
 pub mod Saves
 pub mod Walks
-pub mod Flags
 pub mod ByNumber
 pub mod Pieces
 pub mod Fills

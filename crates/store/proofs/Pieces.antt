@@ -1,5 +1,5 @@
 -- The tests of a key's rows, one row on. Assumes nothing.
-use Rattle.std.proofs.Common.{◌≡◌, ℕ, zero, suc, ◌+◌, ◌*◌, ◌<◌, ◌≤◌, Bool, true, false, cond, not, ◌&&◌, eqb, leb, List, [], ◌∷◌, ◌++◌, length, map, get_or, drop, sym, refl, ap, ◌∙◌, append_assoc, zero-add, subst, ⊎_elim, arith}
+use Rattle.std.proofs.Common.{◌≡◌, ℕ, zero, suc, ◌+◌, ◌*◌, ◌<◌, ◌≤◌, Bool, true, false, cond, not, ◌&&◌, eqb, List, [], ◌∷◌, ◌++◌, length, map, sym, refl, ap, ◌∙◌, zero-add, subst, ⊎_elim, arith}
 use Rattle.std.specs.Bool.{MatchBool}
 use Rattle.std.proofs.lemmas.List.Recursion.{is_sum_by}
 use Rattle.std.specs.List.{sum_by, flat_map, range_with_len, AllWithin, HoldsAt}
@@ -10,9 +10,8 @@ use Rattle.model.specs.declared.row.Row.{Row}
 use Rattle.model.specs.Row.{kind_number, part, is_tail, due}
 use Rattle.processor.specs.declared.few.Few.{Few}
 use Rattle.processor.specs.Few.{held}
-use Rattle.store.specs.Keys.{of_key, apart, pieces, times, once_each, stretch_of, firsts, keys}
+use Rattle.store.specs.Keys.{times, once_each, stretch_of, firsts, keys}
 use Rattle.store.specs.Loading.{all_of}
-use Rattle.store.proofs.Drops.{left_more, seen_more}
 use Rattle.store.proofs.ByNumber.{length_held}
 
 pub tail_number : (kind : Kind) → eqb (kind_number kind) 2 ≡ is_tail kind
@@ -73,38 +72,6 @@ once_is n rows false one =
     let h : one.0 < n = omega (arith, one.1, length-range_with_len 0 n) in
     sym (once_not n rows one.0 h
     (subst (λ q. times q rows ≡ 1 → ⊥) (get_or-range_with_len 0 n one.0 0 h ∙ zero-add one.0) (one.2 0)))
-
-pub key_hit :
-    (key : ℕ) (rows : List Row) (i : ℕ) (row : Row) → i < length rows → row ≡ get_or rows i row → row.key ≡ key →
-    of_key key (drop i rows) ≡ row ∷ of_key key (drop (i + 1) rows)
-key_hit key rows i row h is e =
-    left_more (of_key key) rows i row h is
-    ∙ ap (λ b. cond b (row ∷ of_key key (drop (i + 1) rows)) (of_key key (drop (i + 1) rows))) (eq-eqb row.key key e)
-
-pub key_miss :
-    (key : ℕ) (rows : List Row) (i : ℕ) (row : Row) → i < length rows → row ≡ get_or rows i row → (row.key ≡ key → ⊥) →
-    of_key key (drop i rows) ≡ of_key key (drop (i + 1) rows)
-key_miss key rows i row h is e =
-    left_more (of_key key) rows i row h is
-    ∙ ap (λ b. cond b (row ∷ of_key key (drop (i + 1) rows)) (of_key key (drop (i + 1) rows))) (ne_eqb row.key key e)
-
--- one processor on, where the rows of a key on it are known
-pub apart_at :
-    (key : ℕ) (plan : List (Few Row 32)) (i : ℕ) (x : Few Row 32) (b : Bool) → i < length plan → x ≡ get_or plan i x →
-    leb (length (of_key key (held x))) 1 ≡ b →
-    apart key (map held (drop i plan)) ≡ (b && apart key (map held (drop (i + 1) plan)))
-apart_at key plan i x b h is e =
-    seen_more held (apart key) plan i x h is ∙ ap (λ t. t && apart key (map held (drop (i + 1) plan))) e
-
-pub pieces_at :
-    (key : ℕ) (plan : List (Few Row 32)) (i : ℕ) (x : Few Row 32) (here found after goal : List Row) → i < length plan → x ≡ get_or plan i x →
-    of_key key (held x) ≡ here → after ≡ found ++ here → found ++ pieces key (map held (drop i plan)) ≡ goal →
-    after ++ pieces key (map held (drop (i + 1) plan)) ≡ goal
-pieces_at key plan i x here found after goal h is same e so_far =
-    let rest = pieces key (map held (drop (i + 1) plan)) in
-    ap (λ l. l ++ rest) (e ∙ ap (λ l. found ++ l) (sym same))
-    ∙ (append_assoc found (of_key key (held x)) rest
-    ∙ (ap (λ l. found ++ l) (sym (seen_more held (pieces key) plan i x h is)) ∙ so_far))
 
 pub keys_sum : (lists : List (Few Row 32)) → keys (map held lists) ≡ sum_by (λ l. firsts (held l)) lists
 keys_sum = is_sum_by (λ lists. keys (map held lists)) (λ l. firsts (held l)) refl (λ _ _. refl)

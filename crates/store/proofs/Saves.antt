@@ -1,8 +1,5 @@
 -- The image written part by part is the image written whole. Assumes nothing.
-use Rattle.std.proofs.Common.{◌≡◌, ℕ, ◌+◌, ◌*◌, ◌≤◌, List, ◌++◌, map, length, sym, refl, ap, ◌∙◌, arith, length-append}
-use Rattle.std.proofs.lemmas.List.{length-map}
-use Rattle.processor.specs.declared.rows.Processor.{Processor}
-use Rattle.processor.specs.Rows.{rows_of}
+use Rattle.std.proofs.Common.{◌≡◌, ℕ, ◌+◌, ◌*◌, ◌≤◌, List, ◌++◌, length, refl, ◌∙◌, arith, length-append}
 use Rattle.model.specs.declared.row.Row.{Row}
 use Rattle.store.specs.Image.{header_bytes, heads_bytes, records_bytes, row_count, image}
 use Rattle.store.specs.Buffer.{overwritten}

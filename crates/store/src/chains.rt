@@ -8,16 +8,16 @@ ghost use Rattle.store.specs.Followed.{Followed, Chained};
 
 use crate::fault::{BufferFault, BufferRule as Rule};
 use crate::image::Image;
-use crate::lists::Lists;
+use crate::lists::Chains;
 use processor::few::Few;
 
 impl Image<'_> {
     // The numbers along the chain of each processor.
-    pub(crate) fn chains(&self) -> Result<Lists<u16>, BufferFault>
+    pub(crate) fn chains(&self) -> Result<Chains, BufferFault>
         ensures { Chained self.now.processors (chains (head_at self.now.bytes.now) (next_at self.now.processors self.now.bytes.now) self.now.processors self.now.records) result }
     {
         let mut reached = [false; 256];
-        let mut chains = Lists::new(0);
+        let mut chains = Chains::new(0);
         for p in 0..self.processors {
             chains.push(self.follow(p, &mut reached)?);
         }
@@ -28,8 +28,12 @@ impl Image<'_> {
     }
 
     // Follows the chain of one processor, counted from 0.
-    fn follow(&self, processor: usize, reached: &mut [bool]) -> Result<Few<u16, 32>, BufferFault>
-        requires { (processor < self.now.processors) × (length reached.old ≡ 256) }
+    fn follow(
+        &self,
+        processor: usize,
+        reached: &mut [bool; 256],
+    ) -> Result<Few<u16, 32>, BufferFault>
+        requires { processor < self.now.processors }
         ensures { Followed (walk (next_at self.now.processors self.now.bytes.now) self.now.records 32 (head_at self.now.bytes.now processor) [] reached.old) (processor + 1) reached.new result }
     {
         let place = processor as u16 + 1;
@@ -46,8 +50,8 @@ impl Image<'_> {
     }
 
     // Marks a record as reached, or refuses a number above the record count or of a record that was reached before.
-    fn mark(&self, number: u16, place: u16, reached: &mut [bool]) -> Result<(), BufferFault>
-        requires { (1 ≤ number) × (length reached.old ≡ 256) }
+    fn mark(&self, number: u16, place: u16, reached: &mut [bool; 256]) -> Result<(), BufferFault>
+        requires { 1 ≤ number }
         ensures value { result ≡ (if barred self.now.records reached.old number then Err (fault BufferRule.Chains place) else Ok tt) }
         ensures after { reached.new ≡ (if barred self.now.records reached.old number then reached.old else reach reached.old number) }
     {

@@ -77,7 +77,7 @@ impl<'a> Image<'a> {
     }
 }
 
-// The number that two bytes hold.
+// The number that two bytes hold. No trait has `from_le_bytes`, so each width has its own function.
 fn two_at(bytes: &[u8], at: usize) -> u16
     requires { at + 2 ≤ length bytes.now }
     ensures { result ≡ two_at bytes.now at }

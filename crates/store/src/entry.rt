@@ -1,6 +1,7 @@
 // What a record says of a row, before it is known to be one.
 ghost use Rattle.store.specs.Rowed.{Rowed};
 
+use crate::fault::BufferRule;
 use model::row::{Kind, Row};
 use model::timing::Timing;
 
@@ -14,25 +15,29 @@ pub struct Entry {
     pub period: u32,
 }
 
-impl Entry {
-    // The row of which just this is stored, if there is one.
-    pub(crate) fn row(&self) -> Option<Row>
-        ensures { Rowed self.now result }
-    {
-        let kind = match self.kind {
-            0 if self.part == 0 => Kind::Whole,
-            1 if self.part == 0 => Kind::Head,
-            2 if (1..=7).contains(&self.part) && self.budget == self.deadline => Kind::Tail(
-                self.part,
+impl TryFrom<Entry> for Row {
+    type Error = BufferRule;
+
+    // The row of which just this is stored.
+    ghost try_from_gives = { Rowed };
+
+    fn try_from(entry: Entry) -> Result<Row, BufferRule> {
+        let kind = match entry.kind {
+            0 if entry.part == 0 => Kind::Whole,
+            1 if entry.part == 0 => Kind::Head,
+            2 if (1..=7).contains(&entry.part) && entry.budget == entry.deadline => Kind::Tail(
+                entry.part,
             ),
-            _ => return None,
+            _ => return Err(BufferRule::Record),
         };
-        if self.key == 0 {
-            return None;
+        if entry.key == 0 {
+            return Err(BufferRule::Record);
         }
-        let timing = Timing::new(self.budget, self.deadline, self.period).ok()?;
-        Some(Row {
-            key: self.key,
+        let timing = Timing::new(entry.budget, entry.deadline, entry.period).map_err(
+            |_| BufferRule::Record,
+        )?;
+        Ok(Row {
+            key: entry.key,
             kind,
             timing,
         })

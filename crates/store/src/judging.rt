@@ -8,13 +8,13 @@ ghost use Rattle.store.specs.Answers.{answered};
 ghost use Rattle.store.specs.Judged.{judge_fault};
 
 use crate::fault::{BufferFault, BufferRule as Rule};
-use crate::lists::Lists;
+use crate::lists::Plan;
 use model::judge::Judge;
 use model::row::Row;
 use processor::asking::{Timings, UNUSED};
 use processor::few::Few;
 
-impl Lists<Row> {
+impl Plan {
     // Refuses the lowest processor whose rows get no.
     pub(crate) fn check_judge<J: Judge>(&self, judge: &J) -> Result<(), BufferFault>
         ensures { result ≡ answered (judge_fault (J.Judge.accepts judge.now) 1 (all_held self.now)) }

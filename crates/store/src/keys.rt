@@ -9,7 +9,7 @@ ghost use Rattle.store.specs.Loading.{all_of};
 ghost use Rattle.std.specs.List.{AllByRecursion};
 
 use crate::fault::{BufferFault, BufferRule};
-use crate::lists::Lists;
+use crate::lists::Plan;
 use crate::records::filler;
 use model::row::{Kind, Row};
 use processor::few::Few;
@@ -20,7 +20,7 @@ const MOST_KEYS: usize = 64;
 #[derive(Clone, Copy)]
 pub struct Twice;
 
-impl Lists<Row> {
+impl Plan {
     // Refuses the lowest key whose rows are no reservation, and then more than 64 keys.
     pub(crate) fn check_keys(&self) -> Result<(), BufferFault>
         requires { AllByRecursion (λ row. 1 ≤ row.key) (all_of (all_held self.now)) }

@@ -1,10 +1,8 @@
 // A short list for each of at most eight processors.
 ghost use Rattle.std.specs.Prelude.{◌≤◌};
 
+use model::row::Row;
 use processor::few::Few;
-
-// A processor has room for so many rows.
-pub const LONGEST: usize = 32;
 
 #[derive(Drop)]
 pub struct Lists<T> {
@@ -12,3 +10,9 @@ pub struct Lists<T> {
     pub count: usize,
     ghost eight: { count ≤ 8 },
 }
+
+// The numbers of the records along each processor's chain.
+pub type Chains = Lists<u16>;
+
+// Each processor's rows.
+pub type Plan = Lists<Row>;

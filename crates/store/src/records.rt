@@ -8,9 +8,9 @@ ghost use Rattle.store.specs.Record.{entry_at};
 ghost use Rattle.store.specs.Records.{Numbered, picked};
 ghost use Rattle.store.specs.Reading.{Read, ReadAll};
 
-use crate::fault::{BufferFault, BufferRule};
+use crate::fault::BufferFault;
 use crate::image::Image;
-use crate::lists::Lists;
+use crate::lists::{Chains, Plan};
 use model::row::{Kind, Row as BoardRow};
 use model::timing::Timing;
 use processor::few::Few;
@@ -31,9 +31,7 @@ impl Image<'_> {
         requires { (1 ≤ number) × (number ≤ self.now.records) }
         ensures { Read (entry_at self.now.processors self.now.bytes.now number) number result }
     {
-        self.entry(number)
-            .row()
-            .ok_or(BufferRule::Record.at(number))
+        BoardRow::try_from(self.entry(number)).map_err(|rule| rule.at(number))
     }
 }
 
@@ -50,14 +48,14 @@ pub(crate) fn filler() -> BoardRow {
     }
 }
 
-impl Lists<u16> {
+impl Chains {
     // The rows along each chain.
-    pub(crate) fn pick(&self, rows: &[BoardRow]) -> Lists<BoardRow>
+    pub(crate) fn pick(&self, rows: &[BoardRow]) -> Plan
         requires { AllByRecursion (Numbered (length rows.now)) (all_held self.now) }
         ensures along { (d : Row) → all_held result ≡ map (picked rows.now d) (all_held self.now) }
         ensures count { result.count ≡ self.now.count }
     {
-        let mut picked = Lists::new(filler());
+        let mut picked = Plan::new(filler());
         for chain in self.as_slice() {
             picked.push(pick(chain.as_slice(), rows));
         }

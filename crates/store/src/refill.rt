@@ -3,11 +3,11 @@ ghost use Rattle.std.specs.Prelude.{◌≡◌, ◌≤◌, map, length, vec_len};
 ghost use Rattle.processor.specs.Rows.{rows_of};
 ghost use Rattle.store.specs.InPlace.{all_held};
 
-use crate::lists::Lists;
+use crate::lists::Plan;
 use model::row::Row;
 use processor::rows::Processor;
 
-impl Lists<Row> {
+impl Plan {
     // Gives each processor its rows.
     pub(crate) fn refill(&self, processors: &mut Vec<Processor>)
         requires { self.now.count ≡ vec_len processors.old }

@@ -5,11 +5,10 @@ ghost use Rattle.store.specs.Unpacked.{Unpacked};
 
 use crate::fault::BufferFault;
 use crate::image::Image;
-use crate::lists::Lists;
-use model::row::Row;
+use crate::lists::Plan;
 
 // The rows of each of so many processors.
-pub(crate) fn unpack(processors: usize, bytes: &[u8]) -> Result<Lists<Row>, BufferFault>
+pub(crate) fn unpack(processors: usize, bytes: &[u8]) -> Result<Plan, BufferFault>
     requires { processors ≤ 8 }
     ensures { Unpacked processors (entries processors bytes.now) result }
 {

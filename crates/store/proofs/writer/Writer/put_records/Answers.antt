@@ -1,4 +1,4 @@
-use Rattle.std.proofs.Common.{◌≡◌, ◌*◌, map, length, ap, ◌∙◌, subst, arith}
+use Rattle.std.proofs.Common.{map, length, ap, ◌∙◌, subst, arith}
 use Rattle.processor.specs.Rows.{rows_of}
 use Rattle.store.specs.Image.{records_bytes, row_count}
 use Rattle.store.specs.Written.{Wrote}

@@ -1,8 +1,8 @@
-use Rattle.std.proofs.Common.{None, Some, refl, sym, ap, ◌∙◌, arith}
+use Rattle.std.proofs.Common.{None, Some, sym, ap, ◌∙◌, arith}
 use Rattle.store.specs.InPlace.{all_held}
 use Rattle.store.specs.Answers.{answered}
 use Rattle.store.proofs.Lowest.{key_is_lowest, key_told, keys_told, none_told}
-use Rattle.store.proofs.keys.Lists+Row.check_keys.Goals as goal
+use Rattle.store.proofs.keys.Plan.check_keys.Goals as goal
 
 pub returns-in-Some : goal.returns-in-Some
 returns-in-Some c =

@@ -1,11 +1,11 @@
-use Rattle.std.proofs.Common.{◌≡◌, map, length, take, sym, ap, ◌∙◌, subst, arith}
+use Rattle.std.proofs.Common.{map, length, sym, ap, ◌∙◌, subst, arith}
 use Rattle.std.specs.List.{AllByRecursion}
 use Rattle.std.proofs.lemmas.List.{take_all}
 use Rattle.processor.specs.Few.{held}
 use Rattle.store.specs.InPlace.{all_held}
 use Rattle.store.specs.Records.{Numbered, picked}
 use Rattle.store.proofs.ByNumber.{numbered_chain, picks_more}
-use Rattle.store.proofs.records.Lists+u16.pick.Goals as goal
+use Rattle.store.proofs.records.Chains.pick.Goals as goal
 
 pub pick-requires : goal.pick-requires
 pick-requires c =

@@ -1,15 +1,14 @@
-use Rattle.std.proofs.Common.{◌≡◌, map, min, filter, sym, ap, ◌∙◌, rules, tests}
-use Rattle.std.specs.List.{reduce, flat_map}
+use Rattle.std.proofs.Common.{map, min, filter, sym, ap, ◌∙◌, rules, tests}
+use Rattle.std.specs.List.{reduce}
 use Rattle.std.proofs.lemmas.Iterator.{YieldsList-from_map, YieldsList-from_slice}
 use Rattle.std.proofs.lemmas.Iterator.Adapters.{YieldsList-from_flat_map, option_map_id}
 use Rattle.std.proofs.lemmas.Iterator.Consumers.{YieldsList-from_filter, YieldsList-at, min_from_yields_List}
-use Rattle.model.specs.declared.row.Row.{Row}
 use Rattle.processor.specs.Few.{held}
 use Rattle.store.specs.InPlace.{all_held}
 use Rattle.store.specs.Keys.{bad_key}
 use Rattle.store.specs.Loading.{all_of}
 use Rattle.store.proofs.Pieces.{flat_all}
-use Rattle.store.proofs.keys.Lists+Row.lowest_bad.Goals as goal
+use Rattle.store.proofs.keys.Plan.lowest_bad.Goals as goal
 
 pub returns : goal.returns
 returns c =

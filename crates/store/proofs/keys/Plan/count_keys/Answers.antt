@@ -1,12 +1,10 @@
 use Rattle.std.proofs.Common.{◌≤◌, map, length, sym, ap, ◌∙◌, arith, rules, tests}
-use Rattle.std.specs.List.{sum_by}
 use Rattle.std.proofs.lemmas.Iterator.{YieldsList-from_map, YieldsList-from_slice}
 use Rattle.std.proofs.lemmas.Iterator.Consumers.{fits_by_from_yields_list, sum_by_from_yields_List}
-use Rattle.std.proofs.lemmas.List.{length-take-le}
 use Rattle.processor.specs.Few.{held}
 use Rattle.store.specs.Keys.{firsts, keys}
 use Rattle.store.proofs.Pieces.{keys_sum, keys_le}
-use Rattle.store.proofs.keys.Lists+Row.count_keys.Goals as goal
+use Rattle.store.proofs.keys.Plan.count_keys.Goals as goal
 
 pub sum-requires-clause-fits : goal.sum-requires-clause-fits
 sum-requires-clause-fits c =

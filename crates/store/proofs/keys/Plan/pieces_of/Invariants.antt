@@ -1,7 +1,7 @@
 use Rattle.std.proofs.Common.{◌≡◌, ◌≤◌, ◌++◌, map, length, drop}
 use Rattle.processor.specs.Few.{held}
 use Rattle.store.specs.Keys.{apart, pieces}
-use Rattle.store.proofs.keys.Lists+Row.pieces_of.Given as goal
+use Rattle.store.proofs.keys.Plan.pieces_of.Given as goal
 
 abbrev pub invariant-loop-rows : goal.invariant-loop-rows
 invariant-loop-rows l =

@@ -1,7 +1,7 @@
 use Rattle.std.proofs.Common.{◌≡◌, map, take, vec_items, vec_len}
 use Rattle.processor.specs.Rows.{rows_of}
 use Rattle.processor.specs.Few.{held}
-use Rattle.store.proofs.refill.Lists+Row.refill.Given as goal
+use Rattle.store.proofs.refill.Plan.refill.Given as goal
 
 abbrev pub invariant-loop-i : goal.invariant-loop-i
 invariant-loop-i l =

@@ -6,7 +6,7 @@ use Rattle.store.specs.Answers.{answered}
 use Rattle.store.specs.Judged.{judge_fault}
 use Rattle.store.proofs.Drops.{seen_all}
 use Rattle.store.proofs.Fills.{judge_at, judge_passed, judge_refused}
-use Rattle.store.proofs.judging.Lists+Row.check_judge.Goals as goal
+use Rattle.store.proofs.judging.Plan.check_judge.Goals as goal
 
 pub returns-in_err-check_rows : goal.returns-in_err-check_rows
 returns-in_err-check_rows g c =

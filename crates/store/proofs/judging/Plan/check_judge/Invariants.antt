@@ -1,7 +1,7 @@
 use Rattle.std.proofs.Common.{◌≡◌, ◌+◌, map, drop}
 use Rattle.processor.specs.Few.{held}
 use Rattle.store.specs.Judged.{judge_fault}
-use Rattle.store.proofs.judging.Lists+Row.check_judge.Given as goal
+use Rattle.store.proofs.judging.Plan.check_judge.Given as goal
 
 abbrev pub invariant-loop-i : goal.invariant-loop-i
 invariant-loop-i g l =

@@ -3,7 +3,7 @@ use Rattle.model.specs.declared.row.Row.{Row}
 use Rattle.processor.specs.Few.{held}
 use Rattle.store.specs.InPlace.{all_held}
 use Rattle.store.specs.Records.{picked}
-use Rattle.store.proofs.records.Lists+u16.pick.Given as goal
+use Rattle.store.proofs.records.Chains.pick.Given as goal
 
 abbrev pub invariant-loop-chain : goal.invariant-loop-chain
 invariant-loop-chain l =
