@@ -2,7 +2,7 @@
 pub mod Splits
 pub mod Digits
 pub mod Words
-pub mod Numerals
 pub mod Sizes
 pub mod Puts
 pub mod Kept
+pub mod Unread

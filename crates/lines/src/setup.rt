@@ -53,16 +53,12 @@ impl JudgeWord {
     pub fn read(word: &[u8]) -> Option<JudgeWord>
         ensures { result ≡ judge_word word.now }
     {
-        if same(word, b"density") {
-            return Some(JudgeWord::Density);
+        match word {
+            b"density" => Some(JudgeWord::Density),
+            b"demand" => Some(JudgeWord::Demand),
+            b"either" => Some(JudgeWord::Either),
+            _ => None,
         }
-        if same(word, b"demand") {
-            return Some(JudgeWord::Demand);
-        }
-        if same(word, b"either") {
-            return Some(JudgeWord::Either);
-        }
-        None
     }
 }
 
@@ -70,13 +66,11 @@ impl RuleWord {
     pub fn read(word: &[u8]) -> Option<RuleWord>
         ensures { result ≡ rule_word word.now }
     {
-        if same(word, b"best") {
-            return Some(RuleWord::Best);
+        match word {
+            b"best" => Some(RuleWord::Best),
+            b"fewest" => Some(RuleWord::Fewest),
+            _ => None,
         }
-        if same(word, b"fewest") {
-            return Some(RuleWord::Fewest);
-        }
-        None
     }
 }
 

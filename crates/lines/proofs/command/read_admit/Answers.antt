@@ -5,5 +5,6 @@ use Rattle.lines.proofs.command.read_admit.Goals as goal
 
 pub returns : goal.returns
 returns c =
-    admit_counted (codes "admit") (fields c.args.line.now) c.field.result.now c.field-2.result.now c.field-3.result.now c.field-4.result.now
-    c.if-not-has_fields.ensures c.requires c.field.ensures c.field-2.ensures c.field-3.ensures c.field-4.ensures
+    let all = c.of.result in
+    admit_counted (codes "admit") (fields c.args.line.now) all.key.now all.budget.now all.deadline.now all.period.now
+    c.if-not-has_fields.ensures c.requires c.of.ensures.key c.of.ensures.budget c.of.ensures.deadline c.of.ensures.period
