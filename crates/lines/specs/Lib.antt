@@ -6,3 +6,4 @@ pub mod Replies
 pub mod Held
 pub mod Reading
 pub mod Examples
+pub mod Choices

@@ -1,6 +1,7 @@
 // The console's lines and replies: what a line asks, why it is refused, and the bytes of an answer. Needs no board.
 #![tactic(auto)]
 
+pub mod choice;
 mod chunk;
 pub mod command;
 pub mod examples;

@@ -1,12 +1,12 @@
 // What the first line sets up: `board`, processors, steps, refinements, a judge and a placement rule.
 ghost use Rattle.std.specs.Prelude.{◌≡◌};
 ghost use Rattle.lines.specs.Fields.{fields};
-ghost use Rattle.lines.specs.Setups.{judge_word, rule_word, unknown_word, settings, setup_of};
+ghost use Rattle.lines.specs.Setups.{judge_word, rule_word, unknown_word, settings, setup_of, opening_number};
 
 use crate::command::LONGEST_LINE;
 use crate::fields::{field, has_field, has_fields, same};
 use crate::numbers::read_number;
-use model::fault::LineFault;
+use model::fault::{LineFault, SetupFault};
 
 #[derive(Clone, Copy, PartialEq, Eq, Debug)]
 pub enum JudgeWord {
@@ -29,6 +29,44 @@ pub struct Setup {
     pub refinements: u32,
     pub judge: JudgeWord,
     pub rule: RuleWord,
+}
+
+// Why a first line is refused: as a line, or for a number that it asks for.
+#[derive(Clone, Copy, PartialEq, Eq, Debug)]
+pub enum OpeningFault {
+    Line(LineFault),
+    Setup(SetupFault),
+}
+
+impl From<LineFault> for OpeningFault {
+    ghost use Rattle.lines.specs.declared.setup.OpeningFault.{OpeningFault};
+
+    ghost from_gives = { λ fault refusal. refusal ≡ OpeningFault.Line fault };
+
+    fn from(fault: LineFault) -> OpeningFault {
+        OpeningFault::Line(fault)
+    }
+}
+
+impl From<SetupFault> for OpeningFault {
+    ghost use Rattle.lines.specs.declared.setup.OpeningFault.{OpeningFault};
+
+    ghost from_gives = { λ fault refusal. refusal ≡ OpeningFault.Setup fault };
+
+    fn from(fault: SetupFault) -> OpeningFault {
+        OpeningFault::Setup(fault)
+    }
+}
+
+impl OpeningFault {
+    pub fn number(&self) -> u8
+        ensures { result ≡ opening_number self.now }
+    {
+        match self {
+            OpeningFault::Line(fault) => fault.number(),
+            OpeningFault::Setup(fault) => fault.number(),
+        }
+    }
 }
 
 impl Setup {
