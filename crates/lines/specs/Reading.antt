@@ -8,7 +8,7 @@ abbrev pub unread : Chunk → List ℕ
 unread c = drop c.at (take c.end c.bytes)
 
 -- the bytes that a reader has and did not give out yet
-abbrev pub left : {I : Type 0} {n : ℕ} → Reader I n → List ℕ
+abbrev pub left : {I : Type 0} → Reader I → List ℕ
 left r = unread r.chunk
 
 -- whether there is another byte

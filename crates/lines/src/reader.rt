@@ -1,4 +1,4 @@
-// An input that is read in chunks and given out line by line, of each line its first N bytes. std's buffered reader would need a heap.
+// An input that is read in chunks and given out line by line. std's buffered reader would need a heap.
 ghost use Rattle.std.specs.Prelude.{◌≡◌, [], IfOk, IfNone};
 ghost use Rattle.lines.specs.Reading.{left, Told};
 
@@ -8,14 +8,14 @@ use std::io;
 use std::io::Read;
 
 #[derive(Drop)]
-pub struct Reader<I, const N: usize> {
+pub struct Reader<I> {
     input: I,
     chunk: Chunk,
 }
 
-impl<I: Read, const N: usize> Reader<I, N> {
+impl<I: Read> Reader<I> {
     // Nothing is read yet.
-    pub fn new(input: I) -> Reader<I, N>
+    pub fn new(input: I) -> Reader<I>
         ensures input { result.input ≡ input }
         ensures chunk { left result ≡ [] }
     {
@@ -25,8 +25,8 @@ impl<I: Read, const N: usize> Reader<I, N> {
         }
     }
 
-    // Reads the next line, if there is one. The last need not end with a newline.
-    pub fn next_line(&mut self) -> io::Result<Option<Line<N>>>
+    // Reads the next line, if there is one, and keeps its first N bytes. The last need not end with a newline.
+    pub fn next_line<const N: usize>(&mut self) -> io::Result<Option<Line<N>>>
         ensures { IfOk result (λ line. IfNone line (left self.new ≡ [])) }
     {
         if !self.more()? {
@@ -35,7 +35,7 @@ impl<I: Read, const N: usize> Reader<I, N> {
         Ok(Some(self.read_line()?))
     }
 
-    fn read_line(&mut self) -> io::Result<Line<N>> {
+    fn read_line<const N: usize>(&mut self) -> io::Result<Line<N>> {
         let mut line = Line::new();
         for _ in 0..u64::MAX {
             self.fill()?;

@@ -73,6 +73,7 @@ impl Start {
 }
 
 // Answers a first line: the reply is written from the buffer's start, and its length returned. A buffer of fewer than 256 bytes is refused.
+#[tactic(auto, using(crate::proofs::Openings::said_first))]
 pub fn first_line(line: &[u8], reply: &mut [u8]) -> Result<(First, usize), LineFault>
     ensures replied { Replied reply.old (first_text line.now) reply.new (ended result) }
     ensures opened { Opened line.now result }

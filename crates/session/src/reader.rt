@@ -11,7 +11,7 @@ use std::io::Read;
 
 #[derive(Drop)]
 pub struct Reader<I> {
-    lines: Lines<I, 81>,
+    lines: Lines<I>,
     // Whether the line `----` ends a session, as the end of the input does.
     marked: bool,
 }
