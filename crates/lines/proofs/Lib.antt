@@ -3,6 +3,4 @@ pub mod Splits
 pub mod Digits
 pub mod Words
 pub mod Sizes
-pub mod Puts
 pub mod Kept
-pub mod Unread

@@ -6,7 +6,6 @@ use Rattle.judges.specs.Density.{density_yes, density_allowance}
 use Rattle.judges.specs.Demand.{demand_yes}
 use Rattle.judges.specs.Allowance.{demand_allowance}
 use Rattle.judges.specs.Either.{either_yes, either_allowance}
-use Rattle.placement.specs.declared.load.Load.{Load}
 use Rattle.placement.specs.Ranks.{lighter}
 use Rattle.lines.specs.declared.setup.JudgeWord.{JudgeWord}
 use Rattle.lines.specs.declared.setup.RuleWord.{RuleWord}

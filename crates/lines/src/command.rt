@@ -120,6 +120,7 @@ pub fn is_blank_within(line: &[u8], longest: usize) -> bool
     line.len() <= longest && !has_field(line, 0)
 }
 
+#[tactic(auto, using(crate::proofs::Words::admit_counted))]
 fn read_admit(line: &[u8]) -> Result<Command<'_>, LineFault>
     requires { says (fields line.now) 0 (codes "admit") ≡ true }
     ensures { told result ≡ counted 5 (fields line.now) }
@@ -130,6 +131,7 @@ fn read_admit(line: &[u8]) -> Result<Command<'_>, LineFault>
     Ok(Command::Admit(AdmitFields::of(line)))
 }
 
+#[tactic(auto, using(crate::proofs::Words::leave_counted))]
 fn read_leave(line: &[u8]) -> Result<Command<'_>, LineFault>
     requires { says (fields line.now) 0 (codes "leave") ≡ true }
     ensures { told result ≡ counted 2 (fields line.now) }

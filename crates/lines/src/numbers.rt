@@ -15,6 +15,7 @@ pub fn read_number(field: &[u8]) -> Result<u32, LineFault>
 }
 
 // The value of digits; that of none is 0.
+#[tactic(auto, using(crate::proofs::Digits::number_stops))]
 fn read_digits(digits: &[u8]) -> Result<u32, LineFault>
     ensures { result ≡ number_after 0 digits.now }
 {

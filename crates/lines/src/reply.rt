@@ -26,6 +26,7 @@ pub struct Reply<const N: usize> {
     text: ArrayString<N>,
 }
 
+#[tactic(auto, using(crate::proofs::Sizes::key_short, crate::proofs::Sizes::byte_short, crate::proofs::Sizes::ticks_short))]
 impl<const N: usize> Reply<N> {
     pub fn new() -> Reply<N>
         ensures { text_of result ≡ [] }
@@ -119,7 +120,8 @@ impl<const N: usize> Reply<N> {
     }
 }
 
-fn kind_text(kind: Kind) -> &'static str
+// The word of a kind.
+pub fn kind_text(kind: Kind) -> &'static str
     ensures text { result.now ≡ kind_word kind }
     ensures short { length result.now ≤ 5 }
 {
