@@ -116,7 +116,7 @@ impl<I: Read> Work for Session<'_, I> {
                 break;
             };
             let Ok(end) = answer(&mut board, line.text(), &mut reply) else {
-                unreachable()
+                unreachable!()
             };
             rt.write_all(&reply[0..end])?;
         }
