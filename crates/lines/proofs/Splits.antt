@@ -1,6 +1,8 @@
 -- The fields of a line are its parts between single spaces, but for those with no byte. Assumes nothing.
-use Rattle.std.proofs.Common.{◌≡◌, ℕ, Bool, true, false, cond, not, ◌==◌, List, [], ◌∷◌, ◌++◌, length, refl, arith}
-use Rattle.std.specs.List.{filter, slice_split, onto_first}
+use Rattle.std.proofs.Common.{◌≡◌, ℕ, Bool, true, false, cond, not, ◌==◌, List, [], ◌∷◌, ◌++◌, length, get_or, Option, Some, None, Bor, ap, refl, ◌∙◌, arith}
+use Rattle.std.specs.List.{filter, slice_split, onto_first, slice_get}
+use Rattle.std.specs.Option.{option_map, unwrap_or}
+use Rattle.std.proofs.lemmas.Option.{unwrap_or-slice_get}
 use Rattle.std.proofs.lemmas.List.{append-nil, append_assoc}
 use Rattle.std.proofs.lemmas.Bool.{ne_eqb}
 use Rattle.lines.specs.Fields.{is_space, ended, fields_after, fields}
@@ -43,3 +45,12 @@ fields_after_parts f (b ∷ l) = at (is_space b) (fields_after_parts [] l) (fiel
 
 pub fields_parts : (l : List ℕ) → filter has_byte (slice_split is_space l) ≡ fields l
 fields_parts l = rw (fields_after_parts [] l, onto_nothing (slice_split is_space l))
+
+-- a field that stands, or nothing
+pub read_field : (fs : List (List ℕ)) (k : ℕ) (r : Option (Bor (List ℕ))) (d : Bor (List ℕ)) → option_map (λ x. x.now) r ≡ slice_get fs k → d.now ≡ []
+    → (unwrap_or r d).now ≡ get_or fs k []
+read_field fs k r d is none = now_or r ∙ (ap (λ o. unwrap_or o d.now) is ∙ rw none (unwrap_or-slice_get fs k []))
+  where
+    now_or : (r : Option (Bor (List ℕ))) → (unwrap_or r d).now ≡ unwrap_or (option_map (λ x. x.now) r) d.now
+    now_or None = refl
+    now_or (Some x) = refl

@@ -6,6 +6,7 @@ ghost use Rattle.std.specs.Str.{bytes_eq};
 ghost use Rattle.lines.specs.Fields.{fields};
 
 // The field at a place, counted from 0; empty where the line has none there.
+#[tactic(auto, using(crate::proofs::Splits::read_field))]
 pub fn field(line: &[u8], place: usize) -> &[u8]
     ensures { result.now ≡ slice_index_or (fields line.now) place [] }
 {

@@ -87,6 +87,7 @@ impl Setup {
     }
 }
 
+#[tactic(auto, using(crate::proofs::Words::reads_density, crate::proofs::Words::reads_demand, crate::proofs::Words::reads_either))]
 impl JudgeWord {
     pub fn read(word: &[u8]) -> Option<JudgeWord>
         ensures { result ≡ judge_word word.now }
@@ -100,6 +101,7 @@ impl JudgeWord {
     }
 }
 
+#[tactic(auto, using(crate::proofs::Words::reads_fewest))]
 impl RuleWord {
     pub fn read(word: &[u8]) -> Option<RuleWord>
         ensures { result ≡ rule_word word.now }
