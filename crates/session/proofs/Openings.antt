@@ -1,14 +1,12 @@
 -- What a first line is answered with, from what came of it. Assumes nothing.
-use Rattle.std.proofs.Common.{◌≡◌, ℕ, Bool, true, false, List, Some, None, Ok, Err, Option, Result, sym, refl, ap}
+use Rattle.std.proofs.Common.{◌≡◌, ℕ, List, Ok, Err, Result}
 use Rattle.model.specs.declared.fault.LineFault.{LineFault}
-use Rattle.model.specs.declared.fault.SetupFault.{SetupFault}
 use Rattle.lines.specs.declared.setup.Setup.{Setup}
 use Rattle.lines.specs.declared.setup.OpeningFault.{OpeningFault}
-use Rattle.lines.specs.Commands.{blank}
 use Rattle.lines.specs.Setups.{setup_of}
 use Rattle.session.specs.declared.first.Start.{Start}
 use Rattle.session.specs.declared.first.First.{First}
-use Rattle.session.specs.Opened.{setup_fault, setup_text, first_text, Read, Comes, said}
+use Rattle.session.specs.Opened.{setup_text, first_text, Read, Comes, said}
 
 -- of a line that was refused
 refused : (r : Result Setup LineFault) (fault : OpeningFault) → Read r (Err fault) → said (First.Refused fault) ≡ setup_text r

@@ -97,11 +97,7 @@ impl<I: Read> Work for Session<'_, I> {
     ghost done = { λ _ _ _ _ _. Unit {0} };
 
     // Sets the board up, says so, and answers line after line.
-    fn run<J: SizingJudge + Drop, P: Placement + Drop>(
-        self,
-        judge: J,
-        rule: P,
-    ) -> io::Result<()> {
+    fn run<J: SizingJudge + Drop, P: Placement + Drop>(self, judge: J, rule: P) -> io::Result<()> {
         let Session {
             rt,
             reader,
