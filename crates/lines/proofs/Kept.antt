@@ -1,21 +1,8 @@
 -- Keeping the first 81 bytes of a line. Assumes nothing.
-use Rattle.std.proofs.Common.{◌≡◌, ℕ, ◌+◌, ◌<◌, ◌≤◌, List, [], ◌∷◌, ◌++◌, length, take, set, sym, refl, ◌∙◌, ⊎_elim, arith}
-use Rattle.std.proofs.lemmas.List.{take_all, take-append-le, take_more_set, length_push, length-take-le}
+use Rattle.std.proofs.Common.{◌<◌, ◌≤◌, length, take, refl, ⊎_elim, arith}
+use Rattle.std.proofs.lemmas.List.{take_all, length-take-le}
 use Rattle.std.proofs.lemmas.Bool.{cases_lt, lt-ltb}
 use Rattle.lines.specs.Held.{CutIsEnough}
-
--- one more byte while there is room
-pub kept_more : (xs : List ℕ) (n b : ℕ) → length xs ≡ 81 → n < 81 → take (n + 1) (set xs n b) ≡ take 81 (take n xs ++ (b ∷ []))
-kept_more xs n b long room =
-    let front = length-take-le n xs (omega arith) in
-    take_more_set xs n b (omega arith)
-    ∙ sym (take_all 81 (take n xs ++ (b ∷ [])) (omega (arith, length_push (take n xs) b)))
-
--- and none when there is none
-pub kept_full : (xs : List ℕ) (n b : ℕ) → length xs ≡ 81 → n ≡ 81 → take n xs ≡ take 81 (take n xs ++ (b ∷ []))
-kept_full xs n b long full =
-    let front = length-take-le n xs (omega arith) in
-    sym (take-append-le 81 (take n xs) (b ∷ []) (omega arith) ∙ take_all 81 (take n xs) (omega arith))
 
 -- a line of at most 80 bytes is kept whole; of any other it shows that it is too long
 pub cut_is_enough : CutIsEnough

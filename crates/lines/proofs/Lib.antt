@@ -2,7 +2,5 @@
 pub mod Splits
 pub mod Digits
 pub mod Words
-pub mod Numerals
 pub mod Sizes
-pub mod Puts
 pub mod Kept

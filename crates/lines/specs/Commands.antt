@@ -11,9 +11,13 @@ use Rattle.lines.specs.Numbers.{number_of, then_do}
 abbrev pub too_long : List ℕ → Bool
 too_long line = nat_lt 80 (length line)
 
+-- a line of at most so many bytes that asks for nothing
+abbrev pub blank_within : ℕ → List ℕ → Bool
+blank_within longest line = not (nat_lt longest (length line)) && not (nat_lt 0 (length (fields line)))
+
 -- a line that asks for nothing
 abbrev pub blank : List ℕ → Bool
-blank line = not (too_long line) && not (nat_lt 0 (length (fields line)))
+blank line = blank_within 80 line
 
 -- the fields, if there are just n of them
 abbrev pub counted : ℕ → List (List ℕ) → Result (List (List ℕ)) LineFault
@@ -34,7 +38,7 @@ command line = cond (too_long line) (Err LineFault.Long) (command_of (fields lin
 -- the fields that a command holds
 abbrev pub worded : Command → List (List ℕ)
 worded Command.Blank = []
-worded (Command.Admit k c d t) = codes "admit" ∷ (k.now ∷ (c.now ∷ (d.now ∷ (t.now ∷ []))))
+worded (Command.Admit f) = codes "admit" ∷ (f.key.now ∷ (f.budget.now ∷ (f.deadline.now ∷ (f.period.now ∷ []))))
 worded (Command.Leave k) = codes "leave" ∷ (k.now ∷ [])
 
 abbrev pub told : Result Command LineFault → Result (List (List ℕ)) LineFault

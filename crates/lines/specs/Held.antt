@@ -4,7 +4,7 @@ use Rattle.lines.specs.declared.line.Line.{Line}
 use Rattle.lines.specs.Commands.{asked, blank}
 use Rattle.lines.specs.Setups.{setup_of}
 
-abbrev pub held : Line → List ℕ
+abbrev pub held : {n : ℕ} → Line n → List ℕ
 held l = take l.len l.bytes
 
 -- the first 81 bytes of a line are answered as the whole line is

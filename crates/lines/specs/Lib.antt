@@ -4,4 +4,6 @@ pub mod Commands
 pub mod Setups
 pub mod Replies
 pub mod Held
+pub mod Reading
 pub mod Examples
+pub mod Choices

@@ -3,7 +3,7 @@ use Rattle.std.specs.Prelude.{◌≡◌, ℕ, ◌+◌, cond, List, [], ◌∷◌
 use Rattle.model.specs.declared.fault.LineFault.{LineFault}
 use Rattle.model.specs.declared.row.Kind.{Kind}
 use Rattle.model.specs.declared.row.Row.{Row}
-use Rattle.lines.specs.declared.reply_line.ReplyLine.{ReplyLine}
+use Rattle.lines.specs.declared.reply.Reply.{Reply}
 
 -- a buffer of fewer than 256 bytes is refused before anything is written
 abbrev pub room : ℕ → Result (Unit {0}) LineFault
@@ -18,9 +18,9 @@ pub record Wrote (out : List ℕ) (at : ℕ) (text : List ℕ) (after : List ℕ
   pub bytes : after ≡ put out at text
   pub place : end ≡ at + length text
 
--- the bytes of a line that is made from its end
-abbrev pub text_of : ReplyLine → List ℕ
-text_of l = drop l.start l.bytes
+-- the bytes of the lines that were made
+abbrev pub text_of : {n : ℕ} → Reply n → List ℕ
+text_of r = r.text.bytes
 
 -- a reply line: its fields with one space between them, and byte 10 at the end
 abbrev pub line_of : List (List ℕ) → List ℕ

@@ -2,7 +2,9 @@
 use Rattle.std.specs.Prelude.{ℕ, Bool, cond, not, ◌&&◌, ◌||◌, List, [], length, is_some, Some, None, Ok, Err, codes, Option, Result, ◌==◌, nat_lt, slice_index_or}
 use Rattle.std.specs.Str.{bytes_eq}
 use Rattle.model.specs.declared.fault.LineFault.{LineFault}
+use Rattle.model.specs.Refusal.{line_number, setup_number}
 use Rattle.lines.specs.declared.setup.Setup.{Setup}
+use Rattle.lines.specs.declared.setup.OpeningFault.{OpeningFault}
 use Rattle.lines.specs.declared.setup.JudgeWord.{JudgeWord}
 use Rattle.lines.specs.declared.setup.RuleWord.{RuleWord}
 use Rattle.lines.specs.Fields.{fields, says}
@@ -47,3 +49,8 @@ setup_of line =
     cond (too_long line) (Err LineFault.Long)
     (cond (unknown_word (fields line)) (Err LineFault.Word)
     (cond (length (fields line) == 6) (settings (fields line)) (Err LineFault.Fields)))
+
+-- the number of a refusal of the first line
+abbrev pub opening_number : OpeningFault → ℕ
+opening_number (OpeningFault.Line fault) = line_number fault
+opening_number (OpeningFault.Setup fault) = setup_number fault

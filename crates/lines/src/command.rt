@@ -1,28 +1,30 @@
 // What a line after the first asks for: its fields, still text of the line, and then its numbers.
-ghost use Rattle.std.specs.Prelude.{◌≡◌, true, codes};
+ghost use Rattle.std.specs.Prelude.{◌≡◌, [], true, codes, slice_index_or};
 ghost use Rattle.lines.specs.Fields.{fields, says};
-ghost use Rattle.lines.specs.Commands.{told, worded, counted, command, request_of, admit_of, blank};
+ghost use Rattle.lines.specs.Commands.{told, worded, counted, command, request_of, admit_of, blank, blank_within};
 
-use crate::fields::{field, has_field, has_fields, same};
+use crate::fields::{field, has_field, has_fields};
 use crate::numbers::read_number;
 use model::fault::LineFault;
 
 // A line may have this many bytes, its newline not counted.
 pub const LONGEST_LINE: usize = 80;
 
+// The four fields of an admission; they borrow the line.
+#[derive(Clone, Copy)]
+pub struct AdmitFields<'a> {
+    pub key: &'a [u8],
+    pub budget: &'a [u8],
+    pub deadline: &'a [u8],
+    pub period: &'a [u8],
+}
+
 // The fields of a command; they borrow the line.
 #[derive(Clone, Copy)]
 pub enum Command<'a> {
     Blank,
-    Admit {
-        key: &'a [u8],
-        budget: &'a [u8],
-        deadline: &'a [u8],
-        period: &'a [u8],
-    },
-    Leave {
-        key: &'a [u8],
-    },
+    Admit(AdmitFields<'a>),
+    Leave { key: &'a [u8] },
 }
 
 // A reservation that is asked for, its numbers not judged yet.
@@ -52,14 +54,11 @@ impl<'a> Command<'a> {
         if !has_field(line, 0) {
             return Ok(Command::Blank);
         }
-        let word = field(line, 0);
-        if same(word, b"admit") {
-            return read_admit(line);
+        match field(line, 0) {
+            b"admit" => read_admit(line),
+            b"leave" => read_leave(line),
+            _ => Err(LineFault::Word),
         }
-        if same(word, b"leave") {
-            return read_leave(line);
-        }
-        Err(LineFault::Word)
     }
 
     // What the command asks for, its fields read as numbers.
@@ -68,12 +67,7 @@ impl<'a> Command<'a> {
     {
         match self {
             Command::Blank => Ok(Request::Blank),
-            Command::Admit {
-                key,
-                budget,
-                deadline,
-                period,
-            } => Ok(Request::Admit(AdmitRequest::read(key, budget, deadline, period)?)),
+            Command::Admit(fields) => Ok(Request::Admit(AdmitRequest::read(fields)?)),
             Command::Leave { key } => Ok(Request::Leave {
                 key: read_number(key)?,
             }),
@@ -81,21 +75,33 @@ impl<'a> Command<'a> {
     }
 }
 
+impl<'a> AdmitFields<'a> {
+    // The fields behind the first.
+    pub fn of(line: &'a [u8]) -> AdmitFields<'a>
+        ensures key { result.key.now ≡ slice_index_or (fields line.now) 1 [] }
+        ensures budget { result.budget.now ≡ slice_index_or (fields line.now) 2 [] }
+        ensures deadline { result.deadline.now ≡ slice_index_or (fields line.now) 3 [] }
+        ensures period { result.period.now ≡ slice_index_or (fields line.now) 4 [] }
+    {
+        AdmitFields {
+            key: field(line, 1),
+            budget: field(line, 2),
+            deadline: field(line, 3),
+            period: field(line, 4),
+        }
+    }
+}
+
 impl AdmitRequest {
     // The four numbers of an admission.
-    pub fn read(
-        key: &[u8],
-        budget: &[u8],
-        deadline: &[u8],
-        period: &[u8],
-    ) -> Result<AdmitRequest, LineFault>
-        ensures { result ≡ admit_of key.now budget.now deadline.now period.now }
+    pub fn read(text: &AdmitFields<'_>) -> Result<AdmitRequest, LineFault>
+        ensures { result ≡ admit_of text.now.key.now text.now.budget.now text.now.deadline.now text.now.period.now }
     {
         Ok(AdmitRequest {
-            key: read_number(key)?,
-            budget: read_number(budget)?,
-            deadline: read_number(deadline)?,
-            period: read_number(period)?,
+            key: read_number(text.key)?,
+            budget: read_number(text.budget)?,
+            deadline: read_number(text.deadline)?,
+            period: read_number(text.period)?,
         })
     }
 }
@@ -104,9 +110,17 @@ impl AdmitRequest {
 pub fn is_blank(line: &[u8]) -> bool
     ensures { result ≡ blank line.now }
 {
-    line.len() <= LONGEST_LINE && !has_field(line, 0)
+    is_blank_within(line, LONGEST_LINE)
 }
 
+// The same where a line may have so many bytes.
+pub fn is_blank_within(line: &[u8], longest: usize) -> bool
+    ensures { result ≡ blank_within longest line.now }
+{
+    line.len() <= longest && !has_field(line, 0)
+}
+
+#[tactic(auto, using(crate::proofs::Words::admit_counted))]
 fn read_admit(line: &[u8]) -> Result<Command<'_>, LineFault>
     requires { says (fields line.now) 0 (codes "admit") ≡ true }
     ensures { told result ≡ counted 5 (fields line.now) }
@@ -114,14 +128,10 @@ fn read_admit(line: &[u8]) -> Result<Command<'_>, LineFault>
     if !has_fields(line, 5) {
         return Err(LineFault::Fields);
     }
-    Ok(Command::Admit {
-        key: field(line, 1),
-        budget: field(line, 2),
-        deadline: field(line, 3),
-        period: field(line, 4),
-    })
+    Ok(Command::Admit(AdmitFields::of(line)))
 }
 
+#[tactic(auto, using(crate::proofs::Words::leave_counted))]
 fn read_leave(line: &[u8]) -> Result<Command<'_>, LineFault>
     requires { says (fields line.now) 0 (codes "leave") ≡ true }
     ensures { told result ≡ counted 2 (fields line.now) }

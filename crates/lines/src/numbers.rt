@@ -15,6 +15,7 @@ pub fn read_number(field: &[u8]) -> Result<u32, LineFault>
 }
 
 // The value of digits; that of none is 0.
+#[tactic(auto, using(crate::proofs::Digits::number_stops))]
 fn read_digits(digits: &[u8]) -> Result<u32, LineFault>
     ensures { result ≡ number_after 0 digits.now }
 {
@@ -29,12 +30,10 @@ fn read_digits(digits: &[u8]) -> Result<u32, LineFault>
 fn with_digit(value: u32, byte: u8) -> Result<u32, LineFault>
     ensures { result ≡ number_after value (byte ∷ []) }
 {
-    if byte < b'0' || byte > b'9' {
+    if !byte.is_ascii_digit() {
         return Err(LineFault::Number);
     }
-    let longer = value as u64 * 10 + (byte - b'0') as u64;
-    if longer > u32::MAX as u64 {
-        return Err(LineFault::Number);
-    }
-    Ok(longer as u32)
+    let tens = value.checked_mul(10).ok_or(LineFault::Number)?;
+    let digit = u32::from(byte - b'0');
+    tens.checked_add(digit).ok_or(LineFault::Number)
 }

@@ -1,8 +1,9 @@
-// The reply lines: each is made whole, and written into a buffer that the caller lends, from a place on, answering the place after it.
-ghost use Rattle.std.specs.Prelude.{◌≡◌, ◌+◌, ◌<◌, ◌≤◌, [], ◌∷◌, ◌++◌, length, decimal};
+// Replies: lines one after the other, made in memory that is fixed, and written over a buffer that the caller lends.
+ghost use Rattle.std.specs.Prelude.{◌≡◌, ◌+◌, ◌≤◌, [], ◌++◌, length, decimal};
 ghost use Rattle.lines.specs.Replies.{room, Wrote, text_of, kind_word, row_line, gone_line, board_line, refused_line};
 
-use crate::reply_line::ReplyLine;
+use arrayvec::ArrayString;
+use itoa::Buffer;
 use model::fault::LineFault;
 use model::row::{Kind, Row};
 
@@ -19,172 +20,114 @@ pub fn check_room(out: &[u8]) -> Result<(), LineFault>
     Ok(())
 }
 
-// A row that was made, on a processor: at most 30 bytes.
-pub fn put_row(out: &mut [u8], at: usize, processor: u8, row: Row) -> usize
-    requires { at + 30 ≤ length out.old }
-    ensures wrote { Wrote out.old at (row_line processor row) out.new result }
-    ensures short { result ≤ at + 30 }
-{
-    put(out, at, ReplyLine::row(processor, row))
+// Reply lines, at most N bytes.
+#[derive(Drop)]
+pub struct Reply<const N: usize> {
+    text: ArrayString<N>,
 }
 
-// A reservation that left: at most 11 bytes.
-pub fn put_gone(out: &mut [u8], at: usize, key: u16) -> usize
-    requires { at + 11 ≤ length out.old }
-    ensures wrote { Wrote out.old at (gone_line key) out.new result }
-    ensures short { result ≤ at + 11 }
-{
-    put(out, at, ReplyLine::gone(key))
-}
-
-// A board that was set up, with so many processors: at most 10 bytes.
-pub fn put_board(out: &mut [u8], at: usize, processors: u8) -> usize
-    requires { at + 10 ≤ length out.old }
-    ensures wrote { Wrote out.old at (board_line processors) out.new result }
-    ensures short { result ≤ at + 10 }
-{
-    put(out, at, ReplyLine::board(processors))
-}
-
-// A line that was refused, with the refusal's number: at most 12 bytes.
-pub fn put_refused(out: &mut [u8], at: usize, number: u8) -> usize
-    requires { at + 12 ≤ length out.old }
-    ensures wrote { Wrote out.old at (refused_line number) out.new result }
-    ensures short { result ≤ at + 12 }
-{
-    put(out, at, ReplyLine::refused(number))
-}
-
-// A reply line, from a place on.
-fn put(out: &mut [u8], at: usize, line: ReplyLine) -> usize
-    requires { at + length (text_of line) ≤ length out.old }
-    ensures { Wrote out.old at (text_of line) out.new result }
-{
-    let text = line.text();
-    let end = at + text.len();
-    out[at..end].copy_from_slice(text);
-    end
-}
-
-impl ReplyLine {
-    // A row that was made, on a processor.
-    pub fn row(processor: u8, row: Row) -> ReplyLine
-        ensures { text_of result ≡ row_line processor row }
+#[tactic(auto, using(crate::proofs::Sizes::key_short, crate::proofs::Sizes::byte_short, crate::proofs::Sizes::ticks_short))]
+impl<const N: usize> Reply<N> {
+    pub fn new() -> Reply<N>
+        ensures { text_of result ≡ [] }
     {
-        let from_budget = ReplyLine::end()
-            .number(row.timing.deadline)
-            .space()
-            .number(row.timing.budget);
-        let from_kind = from_budget
-            .space()
-            .number(processor as u32)
-            .space()
-            .word(kind_text(row.kind));
-        from_kind.space().number(row.key as u32)
+        Reply {
+            text: ArrayString::new(),
+        }
     }
 
-    // A reservation that left.
-    pub fn gone(key: u16) -> ReplyLine
-        ensures { text_of result ≡ gone_line key }
-    {
-        ReplyLine::end().word(b"gone").space().number(key as u32)
-    }
-
-    // A board that was set up, with so many processors.
-    pub fn board(processors: u8) -> ReplyLine
-        ensures { text_of result ≡ board_line processors }
-    {
-        ReplyLine::end()
-            .number(processors as u32)
-            .space()
-            .word(b"board")
-    }
-
-    // A line that was refused, with the refusal's number.
-    pub fn refused(number: u8) -> ReplyLine
-        ensures { text_of result ≡ refused_line number }
-    {
-        ReplyLine::end()
-            .number(number as u32)
-            .space()
-            .word(b"refused")
-    }
-
-    // The bytes of the line.
+    // The bytes of the lines.
     pub fn text(&self) -> &[u8]
-        ensures { result.now ≡ text_of self.now }
+        ensures text { result.now ≡ text_of self.now }
+        ensures fits { length result.now ≤ N }
     {
-        let (_, text) = self.bytes.split_at(self.start);
-        text
+        self.text.as_str().as_bytes()
     }
 
-    // A line that is nothing but its end.
-    fn end() -> ReplyLine
-        ensures text { text_of result ≡ 10 ∷ [] }
-        ensures room { result.start ≡ 63 }
+    // Writes the lines over a buffer from a place on, and answers the place after them.
+    pub fn put(&self, out: &mut [u8], at: usize) -> usize
+        requires { at + length (text_of self.now) ≤ length out.old }
+        ensures wrote { Wrote out.old at (text_of self.now) out.new result }
+        ensures short { result ≤ at + N }
     {
-        let none = ReplyLine {
-            bytes: [0; 64],
-            start: 64,
-        };
-        none.byte(b'\n')
+        let text = self.text();
+        let end = at + text.len();
+        out[at..end].copy_from_slice(text);
+        end
     }
 
-    fn space(self) -> ReplyLine
-        requires { 0 < self.start }
-        ensures text { text_of result ≡ 32 ∷ text_of self }
-        ensures room { result.start + 1 ≡ self.start }
+    // A row that was made, on a processor: at most 30 bytes.
+    pub fn row(&mut self, processor: u8, row: Row)
+        requires { length (text_of self.old) + 30 ≤ N }
+        ensures text { text_of self.new ≡ text_of self.old ++ row_line processor row }
+        ensures short { length (text_of self.new) ≤ length (text_of self.old) + 30 }
     {
-        self.byte(b' ')
+        self.number(row.key as u32, " ");
+        self.word(kind_text(row.kind), " ");
+        self.number(processor as u32, " ");
+        self.number(row.timing.budget, " ");
+        self.number(row.timing.deadline, "\n");
     }
 
-    // The byte before the line.
-    fn byte(self, byte: u8) -> ReplyLine
-        requires { 0 < self.start }
-        ensures text { text_of result ≡ byte ∷ text_of self }
-        ensures room { result.start + 1 ≡ self.start }
+    // A reservation that left: at most 11 bytes.
+    pub fn gone(&mut self, key: u16)
+        requires { length (text_of self.old) + 11 ≤ N }
+        ensures text { text_of self.new ≡ text_of self.old ++ gone_line key }
+        ensures short { length (text_of self.new) ≤ length (text_of self.old) + 11 }
     {
-        let mut line = self;
-        line.start -= 1;
-        line.bytes[line.start] = byte;
-        line
+        self.number(key as u32, " ");
+        self.word("gone", "\n");
     }
 
-    // A word before the line.
-    fn word(self, word: &[u8]) -> ReplyLine
-        requires { length word.now ≤ self.start }
-        ensures text { text_of result ≡ word.now ++ text_of self }
-        ensures room { result.start + length word.now ≡ self.start }
+    // A board that was set up, with so many processors: at most 10 bytes.
+    pub fn board(&mut self, processors: u8)
+        requires { length (text_of self.old) + 10 ≤ N }
+        ensures text { text_of self.new ≡ text_of self.old ++ board_line processors }
+        ensures short { length (text_of self.new) ≤ length (text_of self.old) + 10 }
     {
-        let mut line = self;
-        for i in (0..word.len()).rev() {
-            line = line.byte(word[i]);
-        }
-        line
+        self.word("board", " ");
+        self.number(processors as u32, "\n");
     }
 
-    // The decimal digits of a number before the line.
-    fn number(self, value: u32) -> ReplyLine
-        requires { 10 ≤ self.start }
-        ensures text { text_of result ≡ decimal value ++ text_of self }
-        ensures room { self.start ≤ result.start + 10 }
+    // A line that was refused, with the refusal's number: at most 12 bytes.
+    pub fn refused(&mut self, number: u8)
+        requires { length (text_of self.old) + 12 ≤ N }
+        ensures text { text_of self.new ≡ text_of self.old ++ refused_line number }
+        ensures short { length (text_of self.new) ≤ length (text_of self.old) + 12 }
     {
-        let mut line = self;
-        let mut rest = value;
-        while rest >= 10 {
-            line = line.byte(b'0' + (rest % 10) as u8);
-            rest /= 10;
-        }
-        line.byte(b'0' + rest as u8)
+        self.word("refused", " ");
+        self.number(number as u32, "\n");
+    }
+
+    // A word, and what ends it.
+    fn word(&mut self, word: &str, end: &str)
+        requires { length (text_of self.old) + length word.now + length end.now ≤ N }
+        ensures text { text_of self.new ≡ text_of self.old ++ (word.now ++ end.now) }
+        ensures long { length (text_of self.new) ≡ length (text_of self.old) + length word.now + length end.now }
+    {
+        self.text.push_str(word);
+        self.text.push_str(end);
+    }
+
+    // The decimal digits of a number, and what ends them.
+    fn number(&mut self, number: u32, end: &str)
+        requires { length (text_of self.old) + length (decimal number) + length end.now ≤ N }
+        ensures text { text_of self.new ≡ text_of self.old ++ (decimal number ++ end.now) }
+        ensures long { length (text_of self.new) ≡ length (text_of self.old) + length (decimal number) + length end.now }
+    {
+        let mut digits = Buffer::new();
+        self.word(digits.format(number), end);
     }
 }
 
-fn kind_text(kind: Kind) -> &'static [u8]
-    ensures { result.now ≡ kind_word kind }
+// The word of a kind.
+pub fn kind_text(kind: Kind) -> &'static str
+    ensures text { result.now ≡ kind_word kind }
+    ensures short { length result.now ≤ 5 }
 {
     match kind {
-        Kind::Whole => b"whole",
-        Kind::Head => b"head",
-        Kind::Tail(_) => b"tail",
+        Kind::Whole => "whole",
+        Kind::Head => "head",
+        Kind::Tail(_) => "tail",
     }
 }

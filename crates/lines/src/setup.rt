@@ -1,12 +1,12 @@
 // What the first line sets up: `board`, processors, steps, refinements, a judge and a placement rule.
 ghost use Rattle.std.specs.Prelude.{◌≡◌};
 ghost use Rattle.lines.specs.Fields.{fields};
-ghost use Rattle.lines.specs.Setups.{judge_word, rule_word, unknown_word, settings, setup_of};
+ghost use Rattle.lines.specs.Setups.{judge_word, rule_word, unknown_word, settings, setup_of, opening_number};
 
 use crate::command::LONGEST_LINE;
 use crate::fields::{field, has_field, has_fields, same};
 use crate::numbers::read_number;
-use model::fault::LineFault;
+use model::fault::{LineFault, SetupFault};
 
 #[derive(Clone, Copy, PartialEq, Eq, Debug)]
 pub enum JudgeWord {
@@ -31,6 +31,44 @@ pub struct Setup {
     pub rule: RuleWord,
 }
 
+// Why a first line is refused: as a line, or for a number that it asks for.
+#[derive(Clone, Copy, PartialEq, Eq, Debug)]
+pub enum OpeningFault {
+    Line(LineFault),
+    Setup(SetupFault),
+}
+
+impl From<LineFault> for OpeningFault {
+    ghost use Rattle.lines.specs.declared.setup.OpeningFault.{OpeningFault};
+
+    ghost from_gives = { λ fault refusal. refusal ≡ OpeningFault.Line fault };
+
+    fn from(fault: LineFault) -> OpeningFault {
+        OpeningFault::Line(fault)
+    }
+}
+
+impl From<SetupFault> for OpeningFault {
+    ghost use Rattle.lines.specs.declared.setup.OpeningFault.{OpeningFault};
+
+    ghost from_gives = { λ fault refusal. refusal ≡ OpeningFault.Setup fault };
+
+    fn from(fault: SetupFault) -> OpeningFault {
+        OpeningFault::Setup(fault)
+    }
+}
+
+impl OpeningFault {
+    pub fn number(&self) -> u8
+        ensures { result ≡ opening_number self.now }
+    {
+        match self {
+            OpeningFault::Line(fault) => fault.number(),
+            OpeningFault::Setup(fault) => fault.number(),
+        }
+    }
+}
+
 impl Setup {
     // The settings of the first line that is not blank.
     pub fn read(line: &[u8]) -> Result<Setup, LineFault>
@@ -49,34 +87,30 @@ impl Setup {
     }
 }
 
+#[tactic(auto, using(crate::proofs::Words::reads_density, crate::proofs::Words::reads_demand, crate::proofs::Words::reads_either))]
 impl JudgeWord {
     pub fn read(word: &[u8]) -> Option<JudgeWord>
         ensures { result ≡ judge_word word.now }
     {
-        if same(word, b"density") {
-            return Some(JudgeWord::Density);
+        match word {
+            b"density" => Some(JudgeWord::Density),
+            b"demand" => Some(JudgeWord::Demand),
+            b"either" => Some(JudgeWord::Either),
+            _ => None,
         }
-        if same(word, b"demand") {
-            return Some(JudgeWord::Demand);
-        }
-        if same(word, b"either") {
-            return Some(JudgeWord::Either);
-        }
-        None
     }
 }
 
+#[tactic(auto, using(crate::proofs::Words::reads_fewest))]
 impl RuleWord {
     pub fn read(word: &[u8]) -> Option<RuleWord>
         ensures { result ≡ rule_word word.now }
     {
-        if same(word, b"best") {
-            return Some(RuleWord::Best);
+        match word {
+            b"best" => Some(RuleWord::Best),
+            b"fewest" => Some(RuleWord::Fewest),
+            _ => None,
         }
-        if same(word, b"fewest") {
-            return Some(RuleWord::Fewest);
-        }
-        None
     }
 }
 

@@ -1,4 +1,3 @@
-pub mod Unread
-pub mod Each
 pub mod Gathering
 pub mod Worked
+pub mod Openings

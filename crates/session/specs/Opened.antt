@@ -1,11 +1,12 @@
 -- What a first line is answered with, and what board it asks for. Assumes nothing.
-use Rattle.std.specs.Prelude.{◌≡◌, ℕ, true, false, cond, List, [], is_some, Some, None, Ok, Err, Option, Result}
+use Rattle.std.specs.Prelude.{◌≡◌, ℕ, true, false, cond, List, [], Some, None, Ok, Err, Option, Result}
 use Rattle.model.specs.declared.fault.LineFault.{LineFault}
 use Rattle.model.specs.declared.fault.SetupFault.{SetupFault}
 use Rattle.model.specs.Refusal.{setup_number, line_number}
 use Rattle.lines.specs.declared.setup.Setup.{Setup}
 use Rattle.lines.specs.Commands.{blank}
-use Rattle.lines.specs.Setups.{setup_of}
+use Rattle.lines.specs.declared.setup.OpeningFault.{OpeningFault}
+use Rattle.lines.specs.Setups.{setup_of, opening_number}
 use Rattle.lines.specs.Replies.{board_line, refused_line}
 use Rattle.wadispoon.specs.Sizes.{sizes_fault}
 use Rattle.session.specs.declared.first.Start.{Start}
@@ -36,31 +37,33 @@ pub record Asks (s : Setup) (start : Start) : Type 0 where
   pub judge : start.judge ≡ s.judge
   pub rule : start.rule ≡ s.rule
 
--- the settings are refused exactly where the answer says so
-abbrev pub Begun : Setup → First → Type 0
-Begun s First.Wait = ⊥
-Begun s (First.Refused end) = is_some (setup_fault s) ≡ true
-Begun s (First.Board end start) = (setup_fault s ≡ None) × Asks s start
+-- the settings are refused exactly where the answer says so, with the first fault
+abbrev pub Begun : Setup → Result Start OpeningFault → Type 0
+Begun s (Ok start) = (setup_fault s ≡ None) × Asks s start
+Begun s (Err (OpeningFault.Setup fault)) = setup_fault s ≡ Some fault
+Begun s (Err (OpeningFault.Line fault)) = ⊥
 
-abbrev pub Read : Result Setup LineFault → First → Type 0
-Read (Ok s) first = Begun s first
-Read (Err fault) First.Wait = ⊥
-Read (Err fault) (First.Refused end) = Unit {0}
-Read (Err fault) (First.Board end start) = ⊥
+abbrev pub Read : Result Setup LineFault → Result Start OpeningFault → Type 0
+Read (Ok s) answer = Begun s answer
+Read (Err fault) answer = answer ≡ Err (OpeningFault.Line fault)
 
 -- what comes of a first line: a blank one is passed over
-abbrev pub Opened : List ℕ → Result First LineFault → Type 0
+abbrev pub Comes : List ℕ → First → Type 0
+Comes line First.Wait = blank line ≡ true
+Comes line (First.Refused fault) = (blank line ≡ false) × Read (setup_of line) (Err fault)
+Comes line (First.Board start) = (blank line ≡ false) × Read (setup_of line) (Ok start)
+
+abbrev pub Opened : List ℕ → Result (First × ℕ) LineFault → Type 0
 Opened line (Err fault) = Unit {0}
-Opened line (Ok First.Wait) = blank line ≡ true
-Opened line (Ok (First.Refused end)) = (blank line ≡ false) × Read (setup_of line) (First.Refused end)
-Opened line (Ok (First.Board end start)) = (blank line ≡ false) × Read (setup_of line) (First.Board end start)
+Opened line (Ok answer) = Comes line answer.0
+
+-- the reply to what came
+abbrev pub said : First → List ℕ
+said First.Wait = []
+said (First.Refused fault) = refused_line (opening_number fault)
+said (First.Board start) = board_line start.sizes.processors
 
 -- the length of the reply
-abbrev pub end_of : First → ℕ
-end_of First.Wait = 0
-end_of (First.Refused end) = end
-end_of (First.Board end start) = end
-
-abbrev pub ended : Result First LineFault → Result ℕ LineFault
-ended (Ok first) = Ok (end_of first)
+abbrev pub ended : Result (First × ℕ) LineFault → Result ℕ LineFault
+ended (Ok answer) = Ok answer.1
 ended (Err fault) = Err fault

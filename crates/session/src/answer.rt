@@ -1,19 +1,23 @@
 // The line call: any line after the first, answered from a board.
-ghost use Rattle.std.specs.Prelude.{◌≡◌, ◌≤◌, length};
+ghost use Rattle.std.specs.Prelude.{◌≡◌, ◌≤◌, map, length, IsOk};
+ghost use Rattle.processor.specs.Rows.{rows_of};
 ghost use Rattle.lines.specs.Commands.{asked};
-ghost use Rattle.lines.specs.Replies.{Wrote};
+ghost use Rattle.lines.specs.Replies.{text_of, refused_line};
 ghost use Rattle.board.specs.Plan.{plan};
-ghost use Rattle.board.specs.Admit.{admitted, after};
-ghost use Rattle.board.specs.Withdraw.{withdrawal};
+ghost use Rattle.board.specs.Admit.{told as told_rows};
+ghost use Rattle.board.specs.Withdraw.{told as told_keys};
 ghost use Rattle.session.specs.Answered.{admit_text, leave_text, reply_text, plan_after, Replied, unless_small};
 
-use crate::reply::{put_gathered, put_rows};
+use crate::reply::{add_gathered, add_rows};
+use board::admission::Admission;
 use board::board::Board;
-use lines::command::{AdmitRequest, Command, Request};
-use lines::reply::{check_room, put_gone, put_refused};
-use model::fault::LineFault;
-use model::judge::{Judge, SizingJudge};
+use board::gathered::Gathered;
+use lines::command::{Command, Request};
+use lines::reply::{REPLY_ROOM, Reply, check_room};
+use model::fault::{LineFault, NamingFault, RequestFault};
+use model::judge::SizingJudge;
 use placement::rule::Placement;
+use processor::rows::Processor;
 
 // Answers a line: the reply is written from the buffer's start, and its length returned. A buffer of fewer than 256 bytes is refused.
 pub fn answer<J: SizingJudge, P: Placement>(
@@ -27,63 +31,66 @@ pub fn answer<J: SizingJudge, P: Placement>(
     ensures rule { board.new.rule ≡ board.old.rule }
 {
     check_room(reply)?;
-    match ask(line) {
-        Err(fault) => Ok(put_refused(reply, 0, fault.number())),
-        Ok(Request::Blank) => Ok(0),
-        Ok(Request::Admit(request)) => Ok(admit(board, request, reply)),
-        Ok(Request::Leave { key }) => Ok(leave(board, key, reply)),
-    }
+    let said = match ask(line) {
+        Err(fault) => refusal(fault.number()),
+        Ok(Request::Blank) => Reply::new(),
+        Ok(Request::Admit(asked)) => {
+            let admitted = board.admit(asked.key, asked.budget, asked.deadline, asked.period);
+            admission(&admitted)
+        }
+        Ok(Request::Leave { key }) => {
+            let withdrawn = board.withdraw(key);
+            withdrawal(key, &withdrawn, board.processors.as_slice())
+        }
+    };
+    Ok(said.put(reply, 0))
 }
 
 // What a line asks for, or its own refusal.
 fn ask(line: &[u8]) -> Result<Request, LineFault>
     ensures { result ≡ asked line.now }
 {
-    let command = Command::read(line)?;
-    command.request()
+    Command::read(line)?.request()
 }
 
-fn admit<J: SizingJudge, P: Placement>(
-    board: &mut Board<J, P>,
-    request: AdmitRequest,
-    reply: &mut [u8],
-) -> usize
-    requires { 256 ≤ length reply.old }
-    ensures wrote { Wrote reply.old 0 (admit_text (admitted P.Rank.Rank.first (P.ranks board.old.rule) (J.Judge.accepts board.old.judge) (J.allows board.old.judge) (plan board.old) request.key request.budget request.deadline request.period)) reply.new result }
-    ensures short { result ≤ 256 }
-    ensures after { plan board.new ≡ after (plan board.old) (admitted P.Rank.Rank.first (P.ranks board.old.rule) (J.Judge.accepts board.old.judge) (J.allows board.old.judge) (plan board.old) request.key request.budget request.deadline request.period) }
-    ensures judge { board.new.judge ≡ board.old.judge }
-    ensures rule { board.new.rule ≡ board.old.rule }
+fn refusal(number: u8) -> Reply<REPLY_ROOM>
+    ensures { text_of result ≡ refused_line number }
 {
-    match board.admit(
-        request.key,
-        request.budget,
-        request.deadline,
-        request.period,
-    ) {
-        Ok(admission) => put_rows(reply, 0, admission.rows()),
-        Err(fault) => put_refused(reply, 0, fault.number()),
+    let mut reply = Reply::new();
+    reply.refused(number);
+    reply
+}
+
+// The reply to an admission.
+fn admission(answer: &Result<Admission, RequestFault>) -> Reply<REPLY_ROOM>
+    ensures { text_of result ≡ admit_text (told_rows answer.now) }
+{
+    match answer {
+        Err(fault) => refusal(fault.number()),
+        Ok(admission) => {
+            let mut reply = Reply::new();
+            add_rows(&mut reply, admission.rows());
+            reply
+        }
     }
 }
 
-fn leave<J: Judge, P>(board: &mut Board<J, P>, key: u32, reply: &mut [u8]) -> usize
-    requires { 256 ≤ length reply.old }
-    ensures wrote { Wrote reply.old 0 (leave_text key (withdrawal (J.accepts board.old.judge) key (plan board.old)).1 (withdrawal (J.accepts board.old.judge) key (plan board.old)).0) reply.new result }
-    ensures short { result ≤ 256 }
-    ensures after { plan board.new ≡ (withdrawal (J.accepts board.old.judge) key (plan board.old)).1 }
-    ensures judge { board.new.judge ≡ board.old.judge }
-    ensures rule { board.new.rule ≡ board.old.rule }
+// The reply to a withdrawal, with the processors as they are then.
+fn withdrawal(
+    key: u32,
+    answer: &Result<Gathered, NamingFault>,
+    processors: &[Processor],
+) -> Reply<REPLY_ROOM>
+    requires { IsOk answer.now → key ≤ 65535 }
+    ensures { text_of result ≡ leave_text key (map rows_of processors.now) (told_keys answer.now) }
 {
-    match board.withdraw(key) {
+    match answer {
+        Err(fault) => refusal(fault.number()),
         Ok(gathered) => {
-            let end = put_gone(reply, 0, key as u16);
-            put_gathered(
-                reply,
-                end,
-                gathered.keys.as_slice(),
-                board.processors.as_slice(),
-            )
+            let mut reply = Reply::new();
+            reply.gone(key as u16);
+            add_gathered(&mut reply, gathered.keys.as_slice(), processors);
+            reply
         }
-        Err(fault) => put_refused(reply, 0, fault.number()),
     }
 }

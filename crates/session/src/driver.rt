@@ -1,18 +1,14 @@
 // A session over an input: the first line sets a board up, which is kept until the session ends. What is read and printed no contract says; what
 // is answered is that of `first_line` and `answer`.
 use crate::answer::answer;
-use crate::first::{First, Start, first_line};
+use crate::first::{First, Start};
 use crate::reader::Reader;
-use judges::density::Density;
-use judges::either::Either;
-use lines::setup::{JudgeWord, RuleWord};
+use lines::choice::{NamedJudge, Work};
+use lines::reply::{REPLY_ROOM, Reply};
 use model::judge::SizingJudge;
-use placement::best::Best;
-use placement::fewest::Fewest;
 use placement::rule::Placement;
 use std::io;
 use std::io::Read;
-use wadispoon::sizes::Sizes;
 
 // One session over an input. What follows a refused first line is not read.
 pub fn serve<I: Read + Drop>(rt: &HostRuntime, input: I) -> io::Result<()> {
@@ -28,18 +24,12 @@ pub fn replay<I: Read + Drop>(rt: &HostRuntime, input: I) -> io::Result<()> {
         if !reader.more()? {
             break;
         }
-        finish(rt, &mut reader)?;
+        if let Ended::Refused = run(rt, &mut reader)? {
+            pass_over(&mut reader)?;
+        }
         rt.write_all(b"----\n")?;
     }
     Ok(())
-}
-
-// One of many sessions: what follows a refused first line is read and let go, up to the mark.
-fn finish<I: Read>(rt: &HostRuntime, reader: &mut Reader<I>) -> io::Result<()> {
-    match run(rt, reader)? {
-        Ended::Over => Ok(()),
-        Ended::Refused => pass_over(reader),
-    }
 }
 
 // How a session ended.
@@ -53,95 +43,79 @@ pub enum Ended {
 
 // Waits for the first line, and keeps the board that it asks for.
 pub fn run<I: Read>(rt: &HostRuntime, reader: &mut Reader<I>) -> io::Result<Ended> {
-    let mut reply = [0u8; 256];
     for _ in 0..u64::MAX {
-        if !reader.next_line()? {
-            return Ok(Ended::Over);
-        }
-        let Ok(first) = first_line(reader.text(), &mut reply) else {
-            unreachable()
+        let Some(line) = reader.next_line()? else {
+            break;
         };
+        let first = First::read(line.text());
         match first {
             First::Wait => {}
-            First::Refused(end) => {
-                rt.write_all(&reply[0..end])?;
+            First::Refused(_) => {
+                rt.write_all(first.reply().text())?;
                 return Ok(Ended::Refused);
             }
-            First::Board(end, start) => {
-                with_judge(rt, reader, start, &reply[0..end])?;
-                return Ok(Ended::Over);
+            First::Board(start) => {
+                let judge = NamedJudge {
+                    word: start.judge,
+                    demand: start.sizes.demand,
+                };
+                let session = Session {
+                    rt,
+                    reader,
+                    start,
+                    said: first.reply(),
+                };
+                judge.run_by(start.rule, session)?;
+                break;
             }
         }
     }
     Ok(Ended::Over)
 }
 
+// What follows a refused first line, up to the session's end.
 fn pass_over<I: Read>(reader: &mut Reader<I>) -> io::Result<()> {
     for _ in 0..u64::MAX {
-        if !reader.next_line()? {
+        if reader.next_line()?.is_none() {
             break;
         }
     }
     Ok(())
 }
 
-// One instance of a session for each judge, and then for each rule.
-fn with_judge<I: Read>(
-    rt: &HostRuntime,
-    reader: &mut Reader<I>,
+// A session once its board is known.
+struct Session<'a, I> {
+    rt: &'a HostRuntime,
+    reader: &'a mut Reader<I>,
     start: Start,
-    said: &[u8],
-) -> io::Result<()> {
-    let demand = start.sizes.demand;
-    match start.judge {
-        JudgeWord::Density => with_rule(rt, reader, start, Density, said),
-        JudgeWord::Demand => with_rule(rt, reader, start, demand, said),
-        JudgeWord::Either => with_rule(
+    said: Reply<REPLY_ROOM>,
+}
+
+impl<I: Read> Work for Session<'_, I> {
+    type Output = io::Result<()>;
+
+    ghost done = { λ _ _ _ _ _. Unit {0} };
+
+    // Sets the board up, says so, and answers line after line.
+    fn run<J: SizingJudge + Drop, P: Placement + Drop>(self, judge: J, rule: P) -> io::Result<()> {
+        let Session {
             rt,
             reader,
             start,
-            Either {
-                first: Density,
-                second: demand,
-            },
             said,
-        ),
-    }
-}
-
-fn with_rule<I: Read, J: SizingJudge + Drop>(
-    rt: &HostRuntime,
-    reader: &mut Reader<I>,
-    start: Start,
-    judge: J,
-    said: &[u8],
-) -> io::Result<()> {
-    match start.rule {
-        RuleWord::Best => keep(rt, reader, start.sizes, judge, Best, said),
-        RuleWord::Fewest => keep(rt, reader, start.sizes, judge, Fewest, said),
-    }
-}
-
-// Sets the board up, says so, and answers line after line.
-fn keep<I: Read, J: SizingJudge + Drop, P: Placement + Drop>(
-    rt: &HostRuntime,
-    reader: &mut Reader<I>,
-    sizes: Sizes,
-    judge: J,
-    rule: P,
-    said: &[u8],
-) -> io::Result<()> {
-    let mut board = sizes.board(rt.alloc(), judge, rule)?;
-    rt.write_all(said)?;
-    let mut reply = [0u8; 256];
-    for _ in 0..u64::MAX {
-        if !reader.next_line()? {
-            break;
+        } = self;
+        let mut board = start.sizes.board(rt.alloc(), judge, rule)?;
+        rt.write_all(said.text())?;
+        let mut reply = [0u8; REPLY_ROOM];
+        for _ in 0..u64::MAX {
+            let Some(line) = reader.next_line()? else {
+                break;
+            };
+            let Ok(end) = answer(&mut board, line.text(), &mut reply) else {
+                unreachable!()
+            };
+            rt.write_all(&reply[0..end])?;
         }
-        let Ok(end) = answer(&mut board, reader.text(), &mut reply) else {
-            unreachable()
-        };
-        rt.write_all(&reply[0..end])?;
+        Ok(())
     }
-    Ok(())
 }

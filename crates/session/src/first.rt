@@ -1,12 +1,13 @@
 // The first line: what board it asks for.
-ghost use Rattle.std.specs.Prelude.{◌≡◌, ◌≤◌, length};
-ghost use Rattle.lines.specs.Replies.{Wrote};
+ghost use Rattle.std.specs.Prelude.{◌≡◌};
+ghost use Rattle.lines.specs.Setups.{setup_of};
+ghost use Rattle.lines.specs.Replies.{text_of};
 ghost use Rattle.session.specs.Answered.{Replied};
-ghost use Rattle.session.specs.Opened.{setup_fault, sizes_text, first_text, Begun, Opened, end_of, ended};
+ghost use Rattle.session.specs.Opened.{first_text, Read, Opened, Comes, said, ended};
 
 use lines::command::is_blank;
-use lines::reply::{check_room, put_board, put_refused};
-use lines::setup::{JudgeWord, RuleWord, Setup};
+use lines::reply::{REPLY_ROOM, Reply, check_room};
+use lines::setup::{JudgeWord, OpeningFault, RuleWord, Setup};
 use model::fault::LineFault;
 use wadispoon::sizes::Sizes;
 
@@ -18,47 +19,67 @@ pub struct Start {
     pub rule: RuleWord,
 }
 
-// What comes of a first line, with the length of the reply.
+// What comes of a first line.
 #[derive(Clone, Copy)]
 pub enum First {
     // A blank line: the first line is still to come.
     Wait,
     // The line was refused.
-    Refused(usize),
+    Refused(OpeningFault),
     // A board is to be set up.
-    Board(usize, Start),
+    Board(Start),
 }
 
-// Answers a first line: the reply is written from the buffer's start. A buffer of fewer than 256 bytes is refused.
-pub fn first_line(line: &[u8], reply: &mut [u8]) -> Result<First, LineFault>
+impl First {
+    pub fn read(line: &[u8]) -> First
+        ensures { Comes line.now result }
+    {
+        if is_blank(line) {
+            return First::Wait;
+        }
+        match Start::read(line) {
+            Err(fault) => First::Refused(fault),
+            Ok(start) => First::Board(start),
+        }
+    }
+
+    // The reply to the line.
+    pub fn reply(&self) -> Reply<REPLY_ROOM>
+        ensures { text_of result ≡ said self.now }
+    {
+        let mut reply = Reply::new();
+        match self {
+            First::Wait => {}
+            First::Refused(fault) => reply.refused(fault.number()),
+            First::Board(start) => reply.board(start.sizes.processors),
+        }
+        reply
+    }
+}
+
+impl Start {
+    // The settings of a line that is not blank.
+    fn read(line: &[u8]) -> Result<Start, OpeningFault>
+        ensures { Read (setup_of line.now) result }
+    {
+        let setup = Setup::read(line)?;
+        let sizes = Sizes::new(setup.processors, setup.steps, setup.refinements)?;
+        Ok(Start {
+            sizes,
+            judge: setup.judge,
+            rule: setup.rule,
+        })
+    }
+}
+
+// Answers a first line: the reply is written from the buffer's start, and its length returned. A buffer of fewer than 256 bytes is refused.
+#[tactic(auto, using(crate::proofs::Openings::said_first))]
+pub fn first_line(line: &[u8], reply: &mut [u8]) -> Result<(First, usize), LineFault>
     ensures replied { Replied reply.old (first_text line.now) reply.new (ended result) }
     ensures opened { Opened line.now result }
 {
     check_room(reply)?;
-    if is_blank(line) {
-        return Ok(First::Wait);
-    }
-    match Setup::read(line) {
-        Err(fault) => Ok(First::Refused(put_refused(reply, 0, fault.number()))),
-        Ok(setup) => Ok(begin(setup, reply)),
-    }
-}
-
-fn begin(setup: Setup, reply: &mut [u8]) -> First
-    requires { 256 ≤ length reply.old }
-    ensures wrote { Wrote reply.old 0 (sizes_text (setup_fault setup) setup.processors) reply.new (end_of result) }
-    ensures short { end_of result ≤ 256 }
-    ensures begun { Begun setup result }
-{
-    match Sizes::new(setup.processors, setup.steps, setup.refinements) {
-        Err(fault) => First::Refused(put_refused(reply, 0, fault.number())),
-        Ok(sizes) => First::Board(
-            put_board(reply, 0, sizes.processors),
-            Start {
-                sizes,
-                judge: setup.judge,
-                rule: setup.rule,
-            },
-        ),
-    }
+    let first = First::read(line);
+    let end = first.reply().put(reply, 0);
+    Ok((first, end))
 }

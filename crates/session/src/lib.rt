@@ -2,11 +2,8 @@
 #![tactic(auto)]
 
 pub mod answer;
-mod chunk;
-mod chunks;
 pub mod driver;
 pub mod examples;
 pub mod first;
 pub mod reader;
-pub mod reading;
 pub mod reply;

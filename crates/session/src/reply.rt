@@ -1,42 +1,51 @@
-// Rows as reply lines, one after the other, each from a place on, answering the place after it.
-ghost use Rattle.std.specs.Prelude.{◌≡◌, ◌+◌, ◌-◌, ◌*◌, ◌≤◌, map, length};
-ghost use Rattle.std.specs.List.{slice_get};
+// Rows as reply lines, one after the other.
+ghost use Rattle.std.specs.Prelude.{◌≡◌, ◌+◌, ◌*◌, ◌≤◌, ◌++◌, map, length};
 ghost use Rattle.processor.specs.Rows.{rows_of};
-ghost use Rattle.lines.specs.Replies.{Wrote};
-ghost use Rattle.session.specs.Rows.{rows_text, line_if, gathered_row, gathered_line, gathered_text};
+ghost use Rattle.lines.specs.Replies.{text_of};
+ghost use Rattle.session.specs.Rows.{rows_text, gathered_row, gathered_line, gathered_text};
 
 use board::admission::Placed;
-use lines::reply::put_row;
+use lines::reply::Reply;
 use model::row::Row;
 use processor::rows::Processor;
 
-// A line for each row, from a place on: at most 30 bytes a row.
-pub fn put_rows(out: &mut [u8], at: usize, rows: &[Placed]) -> usize
-    requires { at + 30 * length rows.now ≤ length out.old }
-    ensures wrote { Wrote out.old at (rows_text rows.now) out.new result }
-    ensures short { result ≤ at + 30 * length rows.now }
+// A line for each row: at most 30 bytes a row.
+pub fn add_rows<const N: usize>(reply: &mut Reply<N>, rows: &[Placed])
+    requires { length (text_of reply.old) + 30 * length rows.now ≤ N }
+    ensures text { text_of reply.new ≡ text_of reply.old ++ rows_text rows.now }
+    ensures short { length (text_of reply.new) ≤ length (text_of reply.old) + 30 * length rows.now }
 {
-    let mut end = at;
     for placed in rows {
-        end = put_row(out, end, placed.processor, placed.row);
+        reply.row(placed.processor, placed.row);
     }
-    end
 }
 
 // A line for each processor on which something was gathered: the last row there.
-pub fn put_gathered(out: &mut [u8], at: usize, keys: &[u16], processors: &[Processor]) -> usize
-    requires room { at + 240 ≤ length out.old }
+pub fn add_gathered<const N: usize>(reply: &mut Reply<N>, keys: &[u16], processors: &[Processor])
+    requires room { length (text_of reply.old) + 240 ≤ N }
     requires eight { length keys.now ≤ 8 }
-    ensures wrote { Wrote out.old at (gathered_text 1 keys.now (map rows_of processors.now)) out.new result }
-    ensures short { result ≤ at + 240 }
+    ensures text { text_of reply.new ≡ text_of reply.old ++ gathered_text 1 keys.now (map rows_of processors.now) }
+    ensures short { length (text_of reply.new) ≤ length (text_of reply.old) + 240 }
 {
-    let count = keys.len().min(processors.len());
-    let mut end = at;
-    for i in 0..count {
-        let row = gathered_row(keys[i], processors[i].rows.as_slice());
-        end = put_if(out, end, i as u8 + 1, row);
+    for (i, (key, processor)) in keys.iter().zip(processors).enumerate() {
+        add_gathered_row(reply, i as u8 + 1, *key, processor);
     }
-    end
+}
+
+// A line for what was gathered on a processor, if anything was.
+fn add_gathered_row<const N: usize>(
+    reply: &mut Reply<N>,
+    number: u8,
+    key: u16,
+    processor: &Processor,
+)
+    requires { length (text_of reply.old) + 30 ≤ N }
+    ensures text { text_of reply.new ≡ text_of reply.old ++ gathered_line number key (rows_of processor.now) }
+    ensures short { length (text_of reply.new) ≤ length (text_of reply.old) + 30 }
+{
+    if let Some(row) = gathered_row(key, processor.rows.as_slice()) {
+        reply.row(number, row);
+    }
 }
 
 // What was gathered on a processor stands last there; key 0 says that nothing was.
@@ -46,27 +55,5 @@ fn gathered_row(key: u16, rows: &[Row]) -> Option<Row>
     if key == 0 {
         return None;
     }
-    last_row(rows)
-}
-
-fn last_row(rows: &[Row]) -> Option<Row>
-    ensures { result ≡ slice_get rows.now (length rows.now - 1) }
-{
-    let count = rows.len();
-    if count == 0 {
-        return None;
-    }
-    Some(rows[count - 1])
-}
-
-// A line for a row, if there is one.
-fn put_if(out: &mut [u8], at: usize, processor: u8, row: Option<Row>) -> usize
-    requires { at + 30 ≤ length out.old }
-    ensures wrote { Wrote out.old at (line_if processor row) out.new result }
-    ensures short { result ≤ at + 30 }
-{
-    match row {
-        Some(row) => put_row(out, at, processor, row),
-        None => at,
-    }
+    rows.last().copied()
 }

@@ -1,19 +1,18 @@
-use Rattle.std.proofs.Common.{◌≡◌, [], get_or, drop, ap, ◌∙◌, add-zero, arith}
-use Rattle.std.proofs.lemmas.List.{drop-drop, get_or-drop}
-use Rattle.lines.specs.Fields.{fields}
-use Rattle.lines.proofs.Splits.{fields_some, stands}
+use Rattle.std.proofs.Common.{ap, ◌∙◌, rules}
+use borrow.Author.Tests.{tests}
+use Rattle.std.specs.List.{slice_get}
+use Rattle.std.proofs.lemmas.Iterator.Consumers.{YieldsList-at, YieldsList-from_filter, nth_from_yields_List}
+use Rattle.std.proofs.lemmas.Iterator.Splits.{YieldsList-from_slice_split}
+use Rattle.lines.specs.Fields.{is_space}
+use Rattle.lines.proofs.Splits.{has_byte, fields_parts}
 use Rattle.lines.proofs.fields.part.Goals as goal
-
-pub loop-preserved : goal.loop-preserved
-loop-preserved c = c.next_field.ensures.rest ∙ (ap (drop 1) c.loop.invariant ∙ drop-drop 1 c.loop.counter (fields c.args.line.now))
 
 pub returns : goal.returns
 returns c =
-    let all = fields c.args.line.now in
-    let here : c.loop.counter ≡ c.args.place = omega arith in
-    let value : c.next_field-2.result.0.now ≡ get_or all c.args.place [] =
-    c.next_field-2.ensures.first ∙ (ap (λ fs. get_or fs 0 []) c.loop.invariant ∙ (get_or-drop c.loop.counter all 0 [] ∙ rw (add-zero, here))) in
-    record {
-      value = value;
-      stands = rw value (stands all c.args.place (fields_some [] c.args.line.now));
-    }
+    let line = c.args.line.now in
+    nth_from_yields_List c.nth.result c.nth.new.self c.args.place c.nth.ensures.ran
+    (YieldsList-from_filter _ has_byte
+    (YieldsList-at c.filter.ensures.source
+    (YieldsList-from_slice_split _ is_space line c.split.ensures.rest c.split.ensures.done c.split.ensures.closure (λ x r q k. search (rules, tests))))
+    c.filter.ensures.closure (λ x r q k. search (rules, tests)))
+    ∙ ap (λ fs. slice_get fs c.args.place) (fields_parts line)
