@@ -6,9 +6,9 @@ ghost use Rattle.benchlines.specs.Openings.{unknown_word, wanted, checked_all, p
 
 use crate::numbers::{check_numbers, number_at};
 use crate::order::read_order;
-use crate::task::{LONGEST_LINE, has_fields};
+use crate::task::LONGEST_LINE;
 use judges::demand::Demand;
-use lines::fields::{field, has_field, same};
+use lines::fields::{field, has_field, has_fields, same};
 use lines::setup::{JudgeWord, RuleWord};
 use model::fault::{LineFault, SetupFault};
 use placement::listed::Listed;
