@@ -86,10 +86,8 @@ fn rows_after(first: usize, count: usize) -> Result<usize, LineFault>
 pub fn count_fields(line: &[u8]) -> usize
     ensures { result ≡ min 127 (length (fields line.now)) }
 {
-    for place in 0..MANY_FIELDS {
-        if !has_field(line, place) {
-            return place;
-        }
-    }
-    MANY_FIELDS
+    line.split(|byte| *byte == b' ')
+        .filter(|part| !part.is_empty())
+        .count()
+        .min(MANY_FIELDS)
 }
