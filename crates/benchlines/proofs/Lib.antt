@@ -1,3 +1,3 @@
 pub mod Hexes
-pub mod Counts
-pub mod Orders
+pub mod Parts
+pub mod Reading

@@ -3,7 +3,7 @@ use Rattle.std.specs.List.{filter, slice_split}
 use Rattle.std.specs.Slice.Iter.{split_rest, split_done, split_callee}
 use Rattle.std.proofs.lemmas.Iterator.Consumers.{count_from_yields_List, YieldsList-from_filter}
 use Rattle.std.proofs.lemmas.Iterator.Splits.{YieldsList-from_slice_split}
-use Rattle.benchlines.proofs.Counts.{fields_split}
+use Rattle.benchlines.proofs.Parts.{fields_split}
 use Rattle.benchlines.proofs.task.count_fields.Goals as goal
 
 pub returns : goal.returns
