@@ -1,17 +1,8 @@
 -- The fields of a line are its parts between spaces that have a byte. Assumes nothing.
-use Rattle.std.proofs.Common.{◌≡◌, ℕ, length, le-ltb, suc, ◌+◌, ◌-◌, ◌/◌, ◌<◌, ◌≤◌, min, Bool, true, false, cond, not, ltb, List, [], ◌∷◌, ◌++◌, get_or, Ok, Err, codes, Result, ◌==◌, sym, refl, ap, ◌∙◌, arith, rules}
+use Rattle.std.proofs.Common.{◌≡◌, ℕ, length, suc, Bool, true, false, cond, not, List, [], ◌∷◌, ◌++◌, ◌==◌, sym, refl, ap, ◌∙◌, rules}
 use Rattle.std.specs.List.{filter, slice_split, onto_first}
 use Rattle.std.proofs.lemmas.List.{append_assoc, append-nil}
-use Rattle.std.proofs.lemmas.Bool.{cond-true, cond-false}
-use native.Mathlib.Decide.{dec_le}
-use borrow.Author.Tests.{lt-leb}
-use Rattle.std.specs.Str.{bytes_eq}
-use Rattle.model.specs.declared.fault.LineFault.{LineFault}
 use Rattle.lines.specs.Fields.{is_space, ended, fields_after, fields}
-use Rattle.lines.specs.Numbers.{number_of, then_do}
-use Rattle.benchlines.specs.Numbers.{checked}
-use Rattle.benchlines.specs.declared.task.Task.{Task}
-use Rattle.benchlines.specs.Tasks.{rows_after, rows_task, task_among, task_of}
 
 -- the parts between spaces, with some bytes in front of the first
 abbrev with : List ℕ → List (List ℕ) → List (List ℕ)
@@ -43,11 +34,10 @@ after_split : (f l : List ℕ) → fields_after f l ≡ filter has_bytes (with f
 after_split f [] = ended_part f []
 after_split f (b ∷ l) =
     elim (is_space b) as (λ space. cond space (ended f (fields_after [] l)) (fields_after (f ++ (b ∷ [])) l)
-        ≡ filter has_bytes (with f (cond space ([] ∷ slice_split is_space l) (onto_first b (slice_split is_space l))))) [
+    ≡ filter has_bytes (with f (cond space ([] ∷ slice_split is_space l) (onto_first b (slice_split is_space l))))) [
       | true ↦ ap (ended f) (after_split [] l ∙ with_none (slice_split is_space l)) ∙ ended_part f (slice_split is_space l)
       | false ↦ after_split (f ++ (b ∷ [])) l ∙ ap (filter has_bytes) (with_more f b (slice_split is_space l))
     ]
 
 pub fields_split : (line : List ℕ) → filter (λ part. not (length part == 0)) (slice_split (λ b. b == 32) line) ≡ fields line
 fields_split line = sym (after_split [] line ∙ with_none (slice_split is_space line))
-
