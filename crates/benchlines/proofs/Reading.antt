@@ -25,11 +25,6 @@ step fs from n i r h is =
     ap (checked fs (from + i)) left ∙ ap (λ k. then_do (number_of (get_or fs (from + i) [])) (λ x. checked fs k (n - (i + 1)))) next
     ∙ ap (λ v. then_do v (λ x. checked fs (from + (i + 1)) (n - (i + 1)))) (sym is)
 
-pub read_none : (fs : List (List ℕ)) (from n : ℕ) (numbers : List ℕ) → length numbers ≡ n → Read fs from n 0 numbers
-read_none fs from n numbers long =
-    let first : from + 0 ≡ from = omega arith in let all : n - 0 ≡ n = omega arith in
-    record { long = long; values = refl; left = ap (λ k. checked fs k (n - 0)) first ∙ ap (checked fs from) all }
-
 pub read_more : (fs : List (List ℕ)) (from n i x : ℕ) (numbers : List ℕ) (r : Result ℕ LineFault) → i < n →
     r ≡ number_of (get_or fs (from + i) []) → r ≡ Ok x → Read fs from n i numbers → Read fs from n (i + 1) (set numbers i x)
 read_more fs from n i x numbers r h is ok so_far = record {
