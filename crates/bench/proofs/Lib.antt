@@ -2,3 +2,5 @@ pub mod Texts
 pub mod RowsRead
 pub mod Gathering
 pub mod Images
+pub mod Loading
+pub mod Asked
