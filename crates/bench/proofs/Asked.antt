@@ -1,9 +1,8 @@
 -- An allowance asks for two numbers, and then for rows. Assumes nothing.
-use Rattle.std.proofs.Common.{◌≡◌, ℕ, ◌+◌, ◌*◌, List, Ok, Err, Result, sym, ap, ◌∙◌}
+use Rattle.std.proofs.Common.{◌≡◌, ℕ, ◌*◌, List, Ok, Err, Result, sym, ap, ◌∙◌}
 use Rattle.model.specs.declared.timing.Timing.{Timing}
 use Rattle.model.specs.declared.fault.LineFault.{LineFault}
 use Rattle.model.specs.declared.fault.RequestFault.{RequestFault}
-use Rattle.model.specs.Refusal.{line_number}
 use Rattle.lines.specs.Numbers.{then_do}
 use Rattle.benchlines.specs.Numbers.{number_at, checked, numbers_at, numbers_of}
 use Rattle.bench.specs.declared.refusal.Refusal.{Refusal}
@@ -12,11 +11,6 @@ use Rattle.bench.specs.Timings.{timings_at, unless_line, timings_read}
 use Rattle.bench.specs.Outcomes.{refusal_number, refusal_place}
 use Rattle.bench.specs.Answered.{unless_refused, allowed_text, allow_text}
 use Rattle.bench.proofs.RowsRead.{checked_on}
-
-first_by : (one two : Result (Unit {0}) LineFault) (numbers text : List ℕ) (fault : LineFault) → Err fault ≡ then_do one (λ u. Ok numbers) →
-    refused_at (line_number fault) 0 ≡ unless_refused (then_do one (λ u. two)) text
-first_by (Ok u) two numbers text fault is = absurd (cc)
-first_by (Err told) two numbers text fault is = let same : fault ≡ told = cc in ap (λ f. refused_at (line_number f) 0) same
 
 rows_by : (one two : Result (Unit {0}) LineFault) (numbers taken : List ℕ) (timings : Result (List Timing) RequestFault) (refusal : Refusal)
     (allows : List Timing → ℕ → ℕ → ℕ) (period cap : ℕ) → Ok taken ≡ then_do one (λ u. Ok numbers) → Err refusal ≡ unless_line two timings →
@@ -28,13 +22,6 @@ rows_by (Ok u) (Ok v) numbers taken (Ok xs) refusal allows period cap is err = a
 rows_by (Ok u) (Ok v) numbers taken (Err told) refusal allows period cap is err =
     let same : refusal ≡ Refusal.Request told = cc in ap (λ r. refused_at (refusal_number r) (refusal_place r)) same
 
--- which of the two is no number
-pub numbers_refused : (fs : List (List ℕ)) (n : ℕ) (text : List ℕ) (fault : LineFault) → Err fault ≡ numbers_of fs 1 2 →
-    refused_at (line_number fault) 0 ≡ unless_refused (checked fs 1 (2 + n)) text
-numbers_refused fs n text fault is =
-    first_by (checked fs 1 2) (checked fs 3 n) (numbers_at fs 1 2) text fault is ∙ ap (λ c. unless_refused c text) (sym (checked_on fs 1 2 n))
-
--- which of the rows cannot be read
 pub rows_refused : (fs : List (List ℕ)) (rows : ℕ) (taken : List ℕ) (refusal : Refusal) (allows : List Timing → ℕ → ℕ → ℕ) →
     Ok taken ≡ numbers_of fs 1 2 → Err refusal ≡ timings_read fs 3 rows →
     refused_at (refusal_number refusal) (refusal_place refusal) ≡ allow_text allows fs rows

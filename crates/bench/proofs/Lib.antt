@@ -1,4 +1,4 @@
-pub mod Texts
+pub mod Said
 pub mod RowsRead
 pub mod Gathering
 pub mod Images

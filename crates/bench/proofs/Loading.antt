@@ -1,5 +1,5 @@
 -- Loading the bytes that digits write. Assumes nothing.
-use Rattle.std.proofs.Common.{◌≡◌, ℕ, ◌-◌, ◌≤◌, Bool, true, cond, List, ◌++◌, length, take, Some, None, Ok, Err, Option, Result, sym, refl, subst, ap, ◌∙◌, arith}
+use Rattle.std.proofs.Common.{◌≡◌, ℕ, ◌-◌, ◌≤◌, Bool, cond, List, ◌++◌, length, take, Some, None, Ok, Err, Option, Result, sym, refl, subst, ap, ◌∙◌, arith}
 use Rattle.std.specs.Option.{ok_or}
 use Rattle.model.specs.declared.timing.Timing.{Timing}
 use Rattle.model.specs.declared.row.Row.{Row}
@@ -7,7 +7,7 @@ use Rattle.model.specs.declared.fault.LineFault.{LineFault}
 use Rattle.model.specs.Refusal.{line_number}
 use Rattle.store.specs.declared.fault.BufferFault.{BufferFault}
 use Rattle.store.specs.Load.{Loaded}
-use Rattle.benchlines.specs.Hex.{is_image, bytes_of, fits, decoded}
+use Rattle.benchlines.specs.Hex.{bytes_of, fits, decoded}
 use Rattle.bench.specs.Replies.{refused_at}
 use Rattle.bench.specs.Answered.{load_text, LoadsDigits, LoadAnswered}
 use Rattle.bench.proofs.Images.{no_image, some_image, decoded_front}

@@ -1,16 +1,15 @@
 -- Reading rows one after the other. Assumes nothing.
-use Rattle.std.proofs.Common.{◌≡◌, ℕ, zero, suc, ◌+◌, ◌-◌, ◌*◌, ◌<◌, List, [], ◌∷◌, ◌++◌, length, get_or, drop, None, Ok, Err, Result, sym, refl, ap, ◌∙◌, arith, lt-ltb}
-use Rattle.std.proofs.lemmas.List.{append_assoc, append-nil, at_drop_more}
+use Rattle.std.proofs.Common.{◌≡◌, ℕ, zero, suc, ◌+◌, ◌-◌, ◌*◌, ◌<◌, List, [], ◌∷◌, ◌++◌, length, get_or, drop, None, Ok, Err, Result, sym, refl, ap, ◌∙◌, arith}
+use Rattle.std.proofs.lemmas.List.{append_assoc, at_drop_more}
 use Rattle.model.specs.declared.timing.Timing.{Timing}
 use Rattle.model.specs.declared.fault.RequestFault.{RequestFault}
 use Rattle.model.specs.Limits.{Timed}
-use Rattle.processor.specs.Few.{pushed}
 use Rattle.board.specs.Timed.{timed}
 use Rattle.board.proofs.Timed.{timed_ok}
 use Rattle.benchlines.specs.Numbers.{number_at, checked, numbers_at, numbers_of}
 use Rattle.lines.specs.Numbers.{number_of, then_do}
 use Rattle.model.specs.declared.fault.LineFault.{LineFault}
-use Rattle.bench.specs.Timings.{rows_at, rows_read, or_limit, unless_line, timings_read, timing_by, timing_of, timing_at, with_first, timings_at, timings_by}
+use Rattle.bench.specs.Timings.{rows_at, rows_read, timing_by, timing_of, timing_at, with_first, timings_at, timings_by}
 
 pub timing_is : (c d t : ℕ) (r : Result Timing RequestFault) → Timed c d t r → r ≡ timing_of c d t
 timing_is c d t (Ok x) h = sym (ap (λ f. timing_by f (timed c d t)) h.0 ∙ ap (timing_by None) (timed_ok c d t x h))
@@ -21,18 +20,10 @@ abbrev pub with_front : List Timing → Result (List Timing) RequestFault → Re
 with_front xs (Ok ys) = Ok (xs ++ ys)
 with_front xs (Err fault) = Err fault
 
-front_none : (r : Result (List Timing) RequestFault) → with_front [] r ≡ r
-front_none (Ok ys) = refl
-front_none (Err fault) = refl
-
 front_first : (xs : List Timing) (x : Timing) (rest : Result (List Timing) RequestFault) →
     with_front (xs ++ (x ∷ [])) rest ≡ with_front xs (with_first (Ok x) rest)
 front_first xs x (Ok ys) = ap Ok (append_assoc xs (x ∷ []) ys)
 front_first xs x (Err fault) = refl
-
-pub room_more : (xs ys : List Timing) (x : Timing) → length xs < 40 → ys ≡ pushed 40 xs x → ys ≡ xs ++ (x ∷ [])
-room_more xs ys x room e = e ∙ rw (lt-ltb (length xs) 40 room) refl
-
 
 pub limit_more : (rows : List (List ℕ)) (i : ℕ) (xs ys : List Timing) (row : List ℕ) (x : Timing) (r : Result Timing RequestFault) →
     i < length rows → row ≡ get_or rows i [] → r ≡ timing_of (get_or row 0 0) (get_or row 1 0) (get_or row 2 0) → r ≡ Ok x → ys ≡ xs ++ (x ∷ []) →
@@ -41,7 +32,7 @@ limit_more rows i xs ys row x r here at is ok longer inv =
     let rest = timings_by (drop (i + 1) rows) in
     ap (λ l. with_front l rest) longer ∙ front_first xs x rest
     ∙ ap (λ v. with_front xs (with_first v rest))
-        (sym ok ∙ is ∙ ap (λ row. timing_of (get_or row 0 0) (get_or row 1 0) (get_or row 2 0)) at)
+    (sym ok ∙ is ∙ ap (λ row. timing_of (get_or row 0 0) (get_or row 1 0) (get_or row 2 0)) at)
     ∙ ap (with_front xs) (sym (at_drop_more timings_by rows i [] here)) ∙ inv
 
 rows_more : (fs : List (List ℕ)) (first i : ℕ) → rows_at fs first (i + 1) ≡ rows_at fs first i ++ (numbers_at fs (first + 3 * i) 3 ∷ [])
@@ -76,7 +67,7 @@ checked_on fs place zero n =
 checked_on fs place (suc m) n =
     let a : suc m + n ≡ suc (m + n) = omega arith in let b : place + 1 + m ≡ place + suc m = omega arith in
     ap (checked fs place) a ∙ checked_first (number_of (get_or fs place [])) (checked fs (place + 1) (m + n)) (checked fs (place + 1) m)
-        (checked fs (place + suc m) n) (checked_on fs (place + 1) m n ∙ ap (λ k. then_do (checked fs (place + 1) m) (λ u. checked fs k n)) b)
+    (checked fs (place + suc m) n) (checked_on fs (place + 1) m n ∙ ap (λ k. then_do (checked fs (place + 1) m) (λ u. checked fs k n)) b)
 
 three : (fs : List (List ℕ)) (first count i : ℕ) (r : Result (List ℕ) LineFault) → i < count → r ≡ numbers_of fs (first + 3 * i) 3 →
     checked fs (first + 3 * i) (3 * (count - i)) ≡ then_do r (λ numbers. checked fs (first + 3 * (i + 1)) (3 * (count - (i + 1))))
@@ -108,21 +99,10 @@ row_more fs first i xs ys row r is ok longer so_far =
     ∙ ap (λ l. rows_at fs first i ++ (l ∷ [])) (read_value (checked fs (first + 3 * i) 3) (numbers_at fs (first + 3 * i) 3) row (sym ok ∙ is))
     ∙ sym (rows_more fs first i)
 
-rows_timed : (fs : List (List ℕ)) (place n : ℕ) → timings_by (rows_at fs place n) ≡ timings_at fs place n
+-- the timings of the rows that were read are those of the line
+pub rows_timed : (fs : List (List ℕ)) (place n : ℕ) → timings_by (rows_at fs place n) ≡ timings_at fs place n
 rows_timed fs place zero = refl
 rows_timed fs place (suc n) =
     let b : place + 1 + 1 ≡ place + 2 = omega arith in
     ap (λ k. with_first (timing_of (number_at fs place) (number_at fs (place + 1)) (number_at fs k)) (timings_by (rows_at fs (place + 3) n))) b
     ∙ ap (with_first (timing_at fs place)) (rows_timed fs (place + 3) n)
-
-timed_by : (one : Result (Unit {0}) LineFault) (rows all : List (List ℕ)) (r then : Result (List Timing) RequestFault) →
-    Ok rows ≡ then_do one (λ u. Ok all) → r ≡ timings_by rows → timings_by all ≡ then → or_limit r ≡ unless_line one then
-timed_by (Ok u) rows all r then is timed e =
-    let same : rows ≡ all = cc in ap or_limit (timed ∙ ap timings_by same ∙ e)
-timed_by (Err fault) rows all r then is timed e = absurd (cc)
-
--- the timings of the rows that were read are those of the line
-pub rows_judged : (fs : List (List ℕ)) (first n : ℕ) (rows : List (List ℕ)) (r : Result (List Timing) RequestFault) →
-    Ok rows ≡ rows_read fs first n → r ≡ timings_by rows → or_limit r ≡ timings_read fs first n
-rows_judged fs first n rows r is timed =
-    timed_by (checked fs first (3 * n)) rows (rows_at fs first n) r (timings_at fs first n) is timed (rows_timed fs first n)

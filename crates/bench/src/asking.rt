@@ -31,6 +31,7 @@ pub(crate) fn judge<J: Judge, P>(
     Ok(Answer::Verdict(board.judge.judge(timings.as_slice())))
 }
 
+#[tactic(auto, using(crate::proofs::RowsRead::checked_on))]
 pub(crate) fn allow<J: SizingJudge, P>(
     board: &Board<J, P>,
     line: &[u8],

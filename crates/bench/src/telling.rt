@@ -30,11 +30,7 @@ pub(crate) enum Answer {
 
 impl Answer {
     // What was gathered and an image are told from the board, as it is after the line.
-    pub(crate) fn text<J, P>(
-        &self,
-        heap: Global,
-        board: &Board<J, P>,
-    ) -> Result<String, AllocError>
+    pub(crate) fn text<J, P>(&self, heap: Global, board: &Board<J, P>) -> Result<String, AllocError>
         ensures { IfOk result (λ s. string_bytes s ≡ answer_text (plan board.now) self.now) }
     {
         match self {
@@ -86,12 +82,7 @@ fn left(
 }
 
 // Key 0 says that nothing was gathered.
-fn gathered_on(
-    heap: Global,
-    number: u8,
-    key: u16,
-    rows: &[Row],
-) -> Result<String, AllocError>
+fn gathered_on(heap: Global, number: u8, key: u16, rows: &[Row]) -> Result<String, AllocError>
     ensures { IfOk result (λ s. string_bytes s ≡ gathered_line number key rows.now) }
 {
     match rows.last() {

@@ -16,8 +16,11 @@ returns-in_err-length-clause-loaded g c =
 
 pub slice_bounds-load-end : goal.slice_bounds-load-end
 slice_bounds-load-end g c =
-    omega (arith, (some_image c.args.digits.now 6000 c.in_ok-length.length
-    (some_read c.decode_any.result c.in_ok-length.length (sym c.in_ok-length.was ∙ c.ok_or.ensures.value) ∙ c.decode_any.ensures.value)).2)
+    omega (
+      arith,
+      (some_image c.args.digits.now 6000 c.in_ok-length.length
+          (some_read c.decode_any.result c.in_ok-length.length (sym c.in_ok-length.was ∙ c.ok_or.ensures.value) ∙ c.decode_any.ensures.value)).2,
+    )
 
 pub returns-in_err-load-clause-loaded : goal.returns-in_err-load-clause-loaded
 returns-in_err-load-clause-loaded g c =

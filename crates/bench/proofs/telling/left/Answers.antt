@@ -8,5 +8,5 @@ pub returns : goal.returns
 returns c =
     let pairs = enumerate_source c.loop-i.i-iterator in let text = string_bytes c.loop-i.text in
     let none = gathered_end _ (iter_rest (zip_first pairs)) (iter_rest (zip_second pairs))
-        (elim c.in-None.ensures.steps.0 [ inl a ↦ inl a.1.0 | inr b ↦ inr b.1.0 ]) in
+    (elim c.in-None.ensures.steps.0 [ inl a ↦ inl a.1.0 | inr b ↦ inr b.1.0 ]) in
     sym (append-nil text) ∙ ap (λ rest. text ++ rest) (sym none) ∙ c.loop-i.invariant

@@ -10,6 +10,6 @@ loop-budget-preserved c =
     let row = get_or rows i [] in let longer = c.push.ensures.end (omega arith) in record {
       read =
           limit_more rows i xs (held c.push.new.self) row x c.new.result (omega arith) refl
-              (timing_is (get_or row 0 0) (get_or row 1 0) (get_or row 2 0) c.new.result c.new.ensures) c.in_ok-new.was longer c.loop-budget.invariant.read;
+          (timing_is (get_or row 0 0) (get_or row 1 0) (get_or row 2 0) c.new.result c.new.ensures) c.in_ok-new.was longer c.loop-budget.invariant.read;
       count = omega (arith, ap length longer, length-append xs (x ∷ []));
     }

@@ -7,5 +7,5 @@ use Rattle.bench.proofs.timings.limited.Given as goal
 abbrev pub invariant-loop-budget : goal.invariant-loop-budget
 invariant-loop-budget l = record {
   read : with_front (held l.timings) (timings_by (drop l.budget-index l.rows)) ≡ timings_by l.rows;
-  count : length (held l.timings) ≡ l.budget-index
+  count : length (held l.timings) ≡ l.budget-index;
 }

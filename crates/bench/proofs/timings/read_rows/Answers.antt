@@ -18,8 +18,8 @@ loop-i-preserved c =
     let few = ap length c.loop-i.invariant.values ∙ length_rows fs first i in record {
       values =
           row_more fs first i (held c.loop-i.rows) (held c.push.new.self) c.in_ok-read_numbers.field-0 c.read_numbers.result
-              c.read_numbers.ensures c.in_ok-read_numbers.was (c.push.ensures.end (omega (arith, few))) c.loop-i.invariant.values;
+          c.read_numbers.ensures c.in_ok-read_numbers.was (c.push.ensures.end (omega (arith, few))) c.loop-i.invariant.values;
       left =
           row_left fs first c.args.count i c.in_ok-read_numbers.field-0 c.read_numbers.result
-              (omega arith) c.read_numbers.ensures c.in_ok-read_numbers.was c.loop-i.invariant.left;
+          (omega arith) c.read_numbers.ensures c.in_ok-read_numbers.was c.loop-i.invariant.left;
     }
