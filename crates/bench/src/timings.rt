@@ -24,6 +24,7 @@ fn read_rows(line: &[u8], first: usize, count: usize) -> Result<Few<[u32; 3], 40
     ensures { kept result ≡ rows_read (fields line.now) first count }
 {
     let mut rows = Few::new([0; 3]);
+    // A row's place follows from its number: there is no slice of rows to go over.
     for i in 0..count {
         rows.push(read_numbers(line, first + 3 * i)?);
     }
@@ -35,6 +36,7 @@ fn limited(rows: &[[u32; 3]]) -> Result<Few<Timing, 40>, RequestFault>
     requires { length rows.now ≤ 40 }
     ensures { kept result ≡ timings_by rows.now }
 {
+    // A list of a fixed size holds some timing at each place that is not in use.
     let mut timings = Few::new(Timing {
         budget: 1,
         deadline: 1,

@@ -8,7 +8,7 @@ use Rattle.lines.specs.declared.setup.JudgeWord.{JudgeWord}
 use Rattle.lines.specs.declared.setup.RuleWord.{RuleWord}
 use Rattle.lines.specs.Fields.{fields}
 use Rattle.lines.specs.Numbers.{then_do}
-use Rattle.lines.specs.Setups.{judge_word, rule_word, known}
+use Rattle.lines.specs.Setups.{judge_word, rule_word}
 use Rattle.benchlines.specs.declared.settings.RuleSetting.{RuleSetting}
 use Rattle.benchlines.specs.declared.settings.Settings.{Settings}
 use Rattle.benchlines.specs.Numbers.{number_at, checked, numbers_at}
@@ -50,14 +50,14 @@ written fs rule judge = record { processors = number_at fs 1; steps = number_at 
 
 order_read : (fs : List (List ℕ)) (all : Result (Unit {0}) LineFault) (judge : Option JudgeWord) →
     then_do (then_do (then_do all (λ u. Ok (numbers_at fs 6 8))) (λ order. Ok (RuleSetting.Listed order)))
-    (λ rule. then_do (known judge) (λ judge. Ok (written fs rule judge)))
+    (λ rule. then_do (paired judge None) (λ words. Ok (written fs rule words.0)))
     ≡ then_do (then_do all (λ u. paired judge None)) (λ words. Ok (settings_written fs words.0 words.1))
 order_read fs (Ok u) (Some judge) = refl
 order_read fs (Ok u) None = refl
 order_read fs (Err fault) judge = refl
 
 among_by : (fs : List (List ℕ)) (three : Result (Unit {0}) LineFault) (word : Option RuleWord) (judge : Option JudgeWord) →
-    then_do three (λ u. then_do (rule_among fs word) (λ rule. then_do (known judge) (λ judge. Ok (written fs rule judge))))
+    then_do three (λ u. then_do (rule_among fs word) (λ rule. then_do (paired judge word) (λ words. Ok (written fs rule words.0))))
     ≡ then_do (then_do (then_do three (λ u. checked fs 6 (expected word - 6))) (λ u. paired judge word)) (λ words. Ok (settings_written fs words.0 words.1))
 among_by fs (Err fault) word judge = refl
 among_by fs (Ok u) (Some word) (Some judge) = refl

@@ -4,11 +4,11 @@ use Rattle.model.specs.declared.fault.LineFault.{LineFault}
 use Rattle.lines.specs.declared.setup.RuleWord.{RuleWord}
 use Rattle.lines.specs.Fields.{fields}
 use Rattle.lines.specs.Numbers.{then_do}
-use Rattle.lines.specs.Setups.{judge_word, rule_word, known}
+use Rattle.lines.specs.Setups.{judge_word, rule_word}
 use Rattle.benchlines.specs.declared.settings.RuleSetting.{RuleSetting}
 use Rattle.benchlines.specs.declared.settings.Settings.{Settings}
 use Rattle.benchlines.specs.Numbers.{number_at, checked, numbers_of}
-use Rattle.benchlines.specs.Openings.{words_of, settings_written}
+use Rattle.benchlines.specs.Openings.{words_of, paired, settings_written}
 
 -- the settings of a line, if its words, its count and its numbers are in order
 abbrev pub settings_of : List ℕ → Result Settings LineFault
@@ -22,6 +22,6 @@ rule_among fs None = then_do (numbers_of fs 6 8) (λ order. Ok (RuleSetting.List
 -- the settings of fields whose count is in order
 abbrev pub settings_among : List (List ℕ) → Result Settings LineFault
 settings_among fs =
-    then_do (checked fs 1 3) (λ u. then_do (rule_among fs (rule_word (slice_index_or fs 5 []))) (λ rule.
-    then_do (known (judge_word (slice_index_or fs 4 []))) (λ judge.
-    Ok (record { processors = number_at fs 1; steps = number_at fs 2; refinements = number_at fs 3; judge = judge; rule = rule }))))
+    let word = rule_word (slice_index_or fs 5 []) in
+    then_do (checked fs 1 3) (λ u. then_do (rule_among fs word) (λ rule. then_do (paired (judge_word (slice_index_or fs 4 [])) word) (λ words.
+    Ok (record { processors = number_at fs 1; steps = number_at fs 2; refinements = number_at fs 3; judge = words.0; rule = rule }))))

@@ -14,6 +14,7 @@ pub fn decode(text: &[u8], bytes: &mut [u8]) -> usize
     ensures after { bytes.new ≡ bytes_of text.now ++ drop (length text.now / 2) bytes.old }
 {
     let (pairs, _) = text.as_chunks::<2>();
+    // By index: of bytes written through `iter_mut().zip(..)` a proof knows nothing afterwards.
     for (i, [high, low]) in pairs.iter().enumerate() {
         bytes[i] = byte_of(*high, *low);
     }
