@@ -1,6 +1,7 @@
 -- An image of any plan of a board has room in 4,628 bytes, and a field of a line in as many as the line. Assumes nothing.
 use Rattle.std.proofs.Common.{◌≡◌, ℕ, zero, suc, ◌+◌, ◌-◌, ◌*◌, ◌/◌, ◌≤◌, Bool, true, false, cond, ◌&&◌, ltb, leb, List, [], ◌∷◌, ◌++◌, map, length, get_or, take, Some, None, Ok, Err, Result, refl, ap, ◌∙◌, arith, length-append, ltb-false, le-ltb, le-leb, leb-true}
 use Rattle.std.specs.List.{AllByRecursion}
+use Rattle.std.specs.Result.{IsOk}
 use Rattle.std.proofs.lemmas.List.{length-map, take_at}
 use Rattle.processor.specs.declared.rows.Processor.{Processor}
 use Rattle.processor.specs.Rows.{rows_of}
@@ -27,29 +28,13 @@ room ps h = omega (arith, length_image (map rows_of ps), length-map ps rows_of, 
 fitting : (ps : List Processor) (n : ℕ) → length ps ≤ 8 → n ≡ 4628 → ltb n (length (image (map rows_of ps))) ≡ false
 fitting ps n h long = le-ltb n (length (image (map rows_of ps))) (omega (arith, room ps h))
 
-never : (b : Bool) (f g : BufferFault) (n : ℕ) → b ≡ false → Err f ≡ cond b (Err g) (Ok n) → ⊥
-never true f g n e h = let z : ◌≡◌ {A = ℕ} 0 1 = cc in omega arith
-never false f g n e h = let z : ◌≡◌ {A = ℕ} 0 1 = cc in omega arith
+ok_by : (b : Bool) (r : Result ℕ BufferFault) (n : ℕ) (g : BufferFault) → b ≡ false → r ≡ cond b (Err g) (Ok n) → IsOk r
+ok_by true r n g e is = absurd (cc)
+ok_by false r n g e is = rw is refl
 
-pub no_refusal : (ps : List Processor) (n : ℕ) (f : BufferFault) → length ps ≤ 8 → n ≡ 4628 →
-    Err f ≡ cond (ltb n (length (image (map rows_of ps)))) (Err (fault BufferRule.Room 0)) (Ok (length (image (map rows_of ps)))) → ⊥
-no_refusal ps n f h long =
-    never (ltb n (length (image (map rows_of ps)))) f (fault BufferRule.Room 0) (length (image (map rows_of ps))) (fitting ps n h long)
-
-long_by : (b : Bool) (m n : ℕ) (g : BufferFault) → b ≡ false → Ok m ≡ cond b (Err g) (Ok n) → m ≡ n
-long_by true m n g e h = absurd (let z : ◌≡◌ {A = ℕ} 0 1 = cc in omega arith)
-long_by false m n g e h = cc
-
-pub image_front : (ps : List Processor) (n m : ℕ) (buffer rest then : List ℕ) → length ps ≤ 8 → n ≡ 4628 →
-    Ok m ≡ cond (ltb n (length (image (map rows_of ps)))) (Err (fault BufferRule.Room 0)) (Ok (length (image (map rows_of ps)))) →
-    then ≡ cond (ltb n (length (image (map rows_of ps)))) buffer (image (map rows_of ps) ++ rest) →
-    take (m - 0) then ≡ image (map rows_of ps)
-image_front ps n m buffer rest then h long value after =
-    let bytes = image (map rows_of ps) in
-    let e = fitting ps n h long in
-    let count : m ≡ length bytes = long_by (ltb n (length bytes)) m (length bytes) (fault BufferRule.Room 0) e value in
-    let all : length bytes ≡ m - 0 = omega arith in
-    ap (take (m - 0)) (after ∙ rw e refl) ∙ take_at bytes rest (m - 0) all
+pub saved_ok : (ps : List Processor) (n : ℕ) (r : Result ℕ BufferFault) → length ps ≤ 8 → n ≡ 4628 →
+    r ≡ cond (ltb n (length (image (map rows_of ps)))) (Err (fault BufferRule.Room 0)) (Ok (length (image (map rows_of ps)))) → IsOk r
+saved_ok ps n r h long = ok_by (ltb n (length (image (map rows_of ps)))) r (length (image (map rows_of ps))) (fault BufferRule.Room 0) (fitting ps n h long)
 
 short_if : (b : Bool) (x y : List (List ℕ)) (n : ℕ) → AllByRecursion (λ g. length g ≤ n) x → AllByRecursion (λ g. length g ≤ n) y → AllByRecursion (λ g. length g ≤ n) (cond b x y)
 short_if true x y n hx hy = hx

@@ -87,28 +87,35 @@ abbrev pub Says : {Z : Type 0} → Result (String Z) AllocError → List ℕ →
 Says reply text = IfOk reply (λ s. string_bytes s ≡ text)
 
 -- digits load the bytes that they write; a text that is none is refused, and changes nothing
-abbrev pub LoadsDigits : {Z : Type 0} → Bool → (List Timing → Bool) → List ℕ → List (List Row) → List (List Row) → Result (String Z) AllocError → Type 0
-LoadsDigits true accepts bytes before after reply =
-    (answer : Result (Unit {0}) BufferFault) × Loaded accepts bytes before answer after × Says reply (load_text after answer)
-LoadsDigits false accepts bytes before after reply = (after ≡ before) × Says reply (refused_at (line_number LineFault.Number) 0)
+abbrev pub LoadsDigits : (List ℕ → Type 0) → Bool → (List Timing → Bool) → List ℕ → List (List Row) → List (List Row) → Type 0
+LoadsDigits says true accepts bytes before after =
+    (answer : Result (Unit {0}) BufferFault) × Loaded accepts bytes before answer after × says (load_text after answer)
+LoadsDigits says false accepts bytes before after = (after ≡ before) × says (refused_at (line_number LineFault.Number) 0)
 
-abbrev pub LoadAnswered : {Z : Type 0} → (List Timing → Bool) → List ℕ → List (List Row) → List (List Row) → Result (String Z) AllocError → Type 0
-LoadAnswered accepts digits = LoadsDigits (is_image digits) accepts (bytes_of digits)
+abbrev pub LoadAnswered : (List ℕ → Type 0) → (List Timing → Bool) → List ℕ → List (List Row) → List (List Row) → Type 0
+LoadAnswered says accepts digits = LoadsDigits says (is_image digits) accepts (bytes_of digits)
 
--- the plan after the task of a line with these fields, and the reply, if there was memory for it; a refusal changes nothing
+-- the plan after the task of a line with these fields, and what is said; a refusal changes nothing
+abbrev pub AnsweredAs :
+    {R : Type 0} → (List ℕ → Type 0) → (R → R → Bool) → (ℕ → ℤ → ℕ → R) → (List Timing → Bool) → (List Timing → ℕ → ℕ → ℕ) →
+    List (List ℕ) → List (List Row) → Result Task LineFault → List (List Row) → Type 0
+AnsweredAs says first ranks accepts allows fs before (Err fault) after = (after ≡ before) × says (refused_at (line_number fault) 0)
+AnsweredAs says first ranks accepts allows fs before (Ok Task.Blank) after = (after ≡ before) × says []
+AnsweredAs says first ranks accepts allows fs before (Ok Task.Admit) after =
+    let request = admit_of (slice_index_or fs 1 []) (slice_index_or fs 2 []) (slice_index_or fs 3 []) (slice_index_or fs 4 []) in
+    (after ≡ after_admit first ranks accepts allows before request) × says (admit_text first ranks accepts allows before request)
+AnsweredAs says first ranks accepts allows fs before (Ok Task.Leave) after =
+    (after ≡ after_leave accepts before (number_of (slice_index_or fs 1 []))) × says (leave_text accepts before (number_of (slice_index_or fs 1 [])))
+AnsweredAs says first ranks accepts allows fs before (Ok Task.Load) after = LoadAnswered says accepts (slice_index_or fs 1 []) before after
+AnsweredAs says first ranks accepts allows fs before (Ok Task.Save) after =
+    (after ≡ before) × says (image_line (codes "saved") (image before))
+AnsweredAs says first ranks accepts allows fs before (Ok Task.Look) after = (after ≡ before) × says (look_text before fs)
+AnsweredAs says first ranks accepts allows fs before (Ok (Task.Judge rows)) after = (after ≡ before) × says (judge_text accepts fs rows)
+AnsweredAs says first ranks accepts allows fs before (Ok (Task.Allow rows)) after = (after ≡ before) × says (allow_text allows fs rows)
+
+-- the same, said by the reply, if there was memory for it
 abbrev pub Answered :
     {R Z : Type 0} → (R → R → Bool) → (ℕ → ℤ → ℕ → R) → (List Timing → Bool) → (List Timing → ℕ → ℕ → ℕ) →
     List (List ℕ) → List (List Row) → Result Task LineFault → List (List Row) → Result (String Z) AllocError → Type 0
-Answered first ranks accepts allows fs before (Err fault) after reply = (after ≡ before) × Says reply (refused_at (line_number fault) 0)
-Answered first ranks accepts allows fs before (Ok Task.Blank) after reply = (after ≡ before) × Says reply []
-Answered first ranks accepts allows fs before (Ok Task.Admit) after reply =
-    let request = admit_of (slice_index_or fs 1 []) (slice_index_or fs 2 []) (slice_index_or fs 3 []) (slice_index_or fs 4 []) in
-    (after ≡ after_admit first ranks accepts allows before request) × Says reply (admit_text first ranks accepts allows before request)
-Answered first ranks accepts allows fs before (Ok Task.Leave) after reply =
-    (after ≡ after_leave accepts before (number_of (slice_index_or fs 1 []))) × Says reply (leave_text accepts before (number_of (slice_index_or fs 1 [])))
-Answered first ranks accepts allows fs before (Ok Task.Load) after reply = LoadAnswered accepts (slice_index_or fs 1 []) before after reply
-Answered first ranks accepts allows fs before (Ok Task.Save) after reply =
-    (after ≡ before) × Says reply (image_line (codes "saved") (image before))
-Answered first ranks accepts allows fs before (Ok Task.Look) after reply = (after ≡ before) × Says reply (look_text before fs)
-Answered first ranks accepts allows fs before (Ok (Task.Judge rows)) after reply = (after ≡ before) × Says reply (judge_text accepts fs rows)
-Answered first ranks accepts allows fs before (Ok (Task.Allow rows)) after reply = (after ≡ before) × Says reply (allow_text allows fs rows)
+Answered first ranks accepts allows fs before task after reply =
+    AnsweredAs (Says reply) first ranks accepts allows fs before task after

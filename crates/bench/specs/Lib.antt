@@ -3,3 +3,4 @@ pub mod Rows
 pub mod Timings
 pub mod After
 pub mod Answered
+pub mod Outcomes

@@ -2,11 +2,9 @@
 ghost use Rattle.std.specs.Prelude.{◌≡◌, IfOk, string_bytes};
 ghost use Rattle.lines.specs.Replies.{kind_word, row_line, gone_line, board_line};
 ghost use Rattle.model.specs.Row.{part};
-ghost use Rattle.model.specs.Refusal.{request_number, naming_number, line_number};
 ghost use Rattle.bench.specs.Replies.{refused_at, image_line, shown_line, timing_line, allowance_line, verdict_line};
 
 use benchlines::hex::encode;
-use model::fault::{LineFault, NamingFault, RequestFault};
 use model::row::{Kind, Row};
 use model::timing::Timing;
 use std::alloc::{AllocError, Global};
@@ -16,27 +14,6 @@ pub fn refused(heap: Global, number: u8, place: u16) -> Result<String, AllocErro
     ensures { IfOk result (λ s. string_bytes s ≡ refused_at number place) }
 {
     format!(in heap; "refused {number} {place}\n")
-}
-
-// The refusal of a line itself.
-pub(crate) fn refused_line(heap: Global, fault: LineFault) -> Result<String, AllocError>
-    ensures { IfOk result (λ s. string_bytes s ≡ refused_at (line_number fault) 0) }
-{
-    refused(heap, fault.number(), 0)
-}
-
-// The refusal of a request.
-pub(crate) fn refused_request(heap: Global, fault: RequestFault) -> Result<String, AllocError>
-    ensures { IfOk result (λ s. string_bytes s ≡ refused_at (request_number fault) 0) }
-{
-    refused(heap, fault.number(), 0)
-}
-
-// The refusal of a name: a key or a row that is not there.
-pub(crate) fn refused_name(heap: Global, fault: NamingFault) -> Result<String, AllocError>
-    ensures { IfOk result (λ s. string_bytes s ≡ refused_at (naming_number fault) 0) }
-{
-    refused(heap, fault.number(), 0)
 }
 
 pub fn opened(heap: Global, processors: u32) -> Result<String, AllocError>

@@ -1,3 +1,5 @@
 pub mod Hexes
-pub mod Counts
-pub mod Orders
+pub mod Parts
+pub mod Reading
+pub mod Words
+pub mod Opened

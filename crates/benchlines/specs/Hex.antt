@@ -1,6 +1,6 @@
 -- Bytes as hexadecimal digits. Assumes nothing.
-use Rattle.std.specs.Prelude.{ℕ, ◌+◌, ◌-◌, ◌*◌, ◌/◌, ◌%◌, Bool, true, cond, ◌&&◌, ◌||◌, List, [], ◌∷◌, ◌++◌, length, drop, is_some, Some, None, codes, Option, ◌==◌, nat_le, nat_lt}
-use Rattle.std.specs.List.{flat_map}
+use Rattle.std.specs.Prelude.{ℕ, ◌+◌, ◌-◌, ◌*◌, ◌/◌, ◌%◌, Bool, cond, ◌&&◌, ◌||◌, List, [], ◌∷◌, ◌++◌, length, drop, is_some, Some, None, codes, Option, ◌==◌, nat_le, nat_lt}
+use Rattle.std.specs.List.{list_all, flat_map}
 use Rattle.std.specs.Str.{bytes_eq}
 
 -- `0` to `9` are 0 to 9, and `a` to `f` and `A` to `F` are 10 to 15
@@ -15,8 +15,7 @@ value_of (Some v) = v
 value_of None = 0
 
 abbrev pub all_digits : List ℕ → Bool
-all_digits [] = true
-all_digits (b ∷ l) = is_some (digit_value b) && all_digits l
+all_digits = list_all (λ b. is_some (digit_value b))
 
 -- a text that writes bytes: digits in pairs, or `-` alone
 abbrev pub is_image : List ℕ → Bool

@@ -2,3 +2,4 @@ pub mod Hex
 pub mod Numbers
 pub mod Tasks
 pub mod Openings
+pub mod Settings

@@ -1,5 +1,5 @@
 -- What the first line sets up, and why one is refused. Assumes nothing.
-use Rattle.std.specs.Prelude.{◌≡◌, ℕ, zero, suc, ◌+◌, ◌-◌, min, Bool, cond, not, ◌&&◌, ◌||◌, List, [], ◌∷◌, length, is_some, Some, None, Ok, Err, codes, Option, Result, ◌==◌, nat_lt, slice_index_or}
+use Rattle.std.specs.Prelude.{◌≡◌, ℕ, ◌-◌, min, Bool, cond, not, ◌&&◌, ◌||◌, List, [], map, length, is_some, Some, None, Ok, Err, codes, Option, Result, ◌==◌, nat_lt, slice_index_or}
 use Rattle.model.specs.declared.fault.LineFault.{LineFault}
 use Rattle.model.specs.declared.fault.SetupFault.{SetupFault}
 use Rattle.model.specs.Refusal.{setup_number, line_number}
@@ -14,7 +14,9 @@ use Rattle.lines.specs.Setups.{judge_word, rule_word}
 use Rattle.benchlines.specs.declared.opening.Rule.{Rule}
 use Rattle.benchlines.specs.declared.opening.Opening.{Opening}
 use Rattle.benchlines.specs.declared.opening.OpeningFault.{OpeningFault}
-use Rattle.benchlines.specs.Numbers.{number_at, checked}
+use Rattle.benchlines.specs.declared.settings.RuleSetting.{RuleSetting}
+use Rattle.benchlines.specs.declared.settings.Settings.{Settings}
+use Rattle.benchlines.specs.Numbers.{number_at, numbers_at, checked}
 use Rattle.benchlines.specs.Tasks.{too_long}
 
 -- whether the rule is an order of its own
@@ -52,31 +54,36 @@ words_of line =
     (cond (unknown_word (fields line)) (Err LineFault.Word)
     (cond (length (fields line) == wanted (fields line)) (worded (fields line)) (Err LineFault.Fields)))
 
--- the numbers of an order at so many places; one above 8 counts as 9, which no order holds
-abbrev pub order_at : List (List ℕ) → ℕ → ℕ → List ℕ
-order_at fs place zero = []
-order_at fs place (suc n) = min (number_at fs place) 9 ∷ order_at fs (place + 1) n
+-- the rule that a line writes down: its word, else the numbers of its order
+abbrev pub rule_written : List (List ℕ) → Option RuleWord → RuleSetting
+rule_written fs (Some word) = RuleSetting.Named word
+rule_written fs None = RuleSetting.Listed (numbers_at fs 6 8)
 
--- the rule of the eight numbers from the seventh field on, refused unless they are 1 to 8, once each
-abbrev pub order_of : List (List ℕ) → Result Listed SetupFault
-order_of fs = listed (order_at fs 6 8)
+-- the settings that a line writes down
+abbrev pub settings_written : List (List ℕ) → JudgeWord → Option RuleWord → Settings
+settings_written fs judge word =
+    record { processors = number_at fs 1; steps = number_at fs 2; refinements = number_at fs 3; judge = judge; rule = rule_written fs word }
+
+-- the rule of eight numbers, refused unless they are 1 to 8, once each; one above 8 counts as 9, which no order holds
+abbrev pub order_of : List ℕ → Result Listed SetupFault
+order_of numbers = listed (map (λ n. min n 9) numbers)
 
 abbrev pub ruled : Result Listed SetupFault → Result Rule SetupFault
 ruled (Ok order) = Ok (Rule.Listed order)
 ruled (Err fault) = Err fault
 
--- the rule that has this word, else the one that the line lists
-abbrev pub rule_of : List (List ℕ) → Option RuleWord → Result Rule SetupFault
-rule_of fs (Some word) = Ok (Rule.Named word)
-rule_of fs None = ruled (order_of fs)
+-- the rule that has this word, else the one of this order
+abbrev pub rule_of : RuleSetting → Result Rule SetupFault
+rule_of (RuleSetting.Named word) = Ok (Rule.Named word)
+rule_of (RuleSetting.Listed numbers) = ruled (order_of numbers)
 
 -- a board has 1 to 8 processors
 abbrev pub unfit : ℕ → Bool
 unfit p = nat_lt p 1 || nat_lt 8 p
 
 -- the first number of the settings that is refused: processors, steps, refinements
-abbrev pub sizes_fault : List (List ℕ) → Option SetupFault
-sizes_fault fs = cond (unfit (number_at fs 1)) (Some SetupFault.Processors) (setting_fault (number_at fs 2) (number_at fs 3))
+abbrev pub sizes_fault : Settings → Option SetupFault
+sizes_fault s = cond (unfit s.processors) (Some SetupFault.Processors) (setting_fault s.steps s.refinements)
 
 -- the rule of the settings, or their first refusal, an order's the last
 abbrev pub settled_rule : Option SetupFault → Result Rule SetupFault → Result Rule SetupFault
@@ -84,16 +91,16 @@ settled_rule (Some fault) rule = Err fault
 settled_rule None rule = rule
 
 -- just these settings, or their first refusal
-abbrev pub Settled : List (List ℕ) → JudgeWord → Option RuleWord → Result Opening SetupFault → Type 0
-Settled fs judge word (Ok o) =
-    (settled_rule (sizes_fault fs) (rule_of fs word) ≡ Ok o.rule) × (o.processors ≡ number_at fs 1)
-    × (o.demand.steps ≡ number_at fs 2) × (o.demand.refinements ≡ number_at fs 3) × (o.judge ≡ judge)
-Settled fs judge word (Err fault) = settled_rule (sizes_fault fs) (rule_of fs word) ≡ Err fault
+abbrev pub Settled : Settings → Result Opening SetupFault → Type 0
+Settled s (Ok o) =
+    (settled_rule (sizes_fault s) (rule_of s.rule) ≡ Ok o.rule) × (o.processors ≡ s.processors)
+    × (o.demand.steps ≡ s.steps) × (o.demand.refinements ≡ s.refinements) × (o.judge ≡ s.judge)
+Settled s (Err fault) = settled_rule (sizes_fault s) (rule_of s.rule) ≡ Err fault
 
 -- the settings of a line whose words, count and numbers are in order
 abbrev pub OpenedBy : List (List ℕ) → Result (JudgeWord × Option RuleWord) LineFault → Result Opening OpeningFault → Type 0
-OpenedBy fs (Ok words) (Ok o) = Settled fs words.0 words.1 (Ok o)
-OpenedBy fs (Ok words) (Err (OpeningFault.Setup fault)) = Settled fs words.0 words.1 (Err fault)
+OpenedBy fs (Ok words) (Ok o) = Settled (settings_written fs words.0 words.1) (Ok o)
+OpenedBy fs (Ok words) (Err (OpeningFault.Setup fault)) = Settled (settings_written fs words.0 words.1) (Err fault)
 OpenedBy fs (Ok words) (Err (OpeningFault.Line fault)) = ⊥
 OpenedBy fs (Err told) (Ok o) = ⊥
 OpenedBy fs (Err told) (Err fault) = fault ≡ OpeningFault.Line told

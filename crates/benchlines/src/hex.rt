@@ -7,12 +7,18 @@ use std::alloc::{AllocError, Global};
 
 // Writes the bytes that a text of digits says to the buffer's front, and answers how many they are.
 pub fn decode(text: &[u8], bytes: &mut [u8]) -> usize
-    requires { length text.now ≤ 2 * length bytes.old }
+    requires { length text.now / 2 ≤ length bytes.old }
     ensures bytes { take result bytes.new ≡ bytes_of text.now }
     ensures within { result ≤ length bytes.new }
+    ensures count { result ≡ length text.now / 2 }
+    ensures after { bytes.new ≡ bytes_of text.now ++ drop (length text.now / 2) bytes.old }
 {
-    write_bytes(text, bytes);
-    text.len() / 2
+    let (pairs, _) = text.as_chunks::<2>();
+    // By index: of bytes written through `iter_mut().zip(..)` a proof knows nothing afterwards.
+    for (i, [high, low]) in pairs.iter().enumerate() {
+        bytes[i] = byte_of(*high, *low);
+    }
+    pairs.len()
 }
 
 // The same of any text: one that writes no bytes, or too many, is refused.
@@ -23,8 +29,7 @@ pub fn decode_any(text: &[u8], bytes: &mut [u8]) -> Option<usize>
     if !fits(text, bytes.len()) {
         return None;
     }
-    write_bytes(text, bytes);
-    Some(text.len() / 2)
+    Some(decode(text, bytes))
 }
 
 // Whether a text writes bytes for which there is room.
@@ -39,15 +44,6 @@ pub fn is_image(text: &[u8]) -> bool
     ensures { result ≡ is_image text.now }
 {
     same(text, b"-") || (text.len() % 2 == 0 && all_digits(text))
-}
-
-fn write_bytes(text: &[u8], bytes: &mut [u8])
-    requires { length text.now / 2 ≤ length bytes.old }
-    ensures { bytes.new ≡ bytes_of text.now ++ drop (length text.now / 2) bytes.old }
-{
-    for i in 0..text.len() / 2 {
-        bytes[i] = byte_of(text[2 * i], text[2 * i + 1]);
-    }
 }
 
 fn byte_of(high: u8, low: u8) -> u8
@@ -71,34 +67,19 @@ pub fn encode(heap: Global, bytes: &[u8]) -> Result<String, AllocError>
 fn all_digits(text: &[u8]) -> bool
     ensures { result ≡ all_digits text.now }
 {
-    for byte in text {
-        if !is_digit(*byte) {
-            return false;
-        }
-    }
-    true
-}
-
-fn is_digit(byte: u8) -> bool
-    ensures { result ≡ is_some (digit_value byte) }
-{
-    read_digit(byte).is_some()
+    text.iter().all(|byte| read_digit(*byte).is_some())
 }
 
 // The value of a digit of either case; other bytes have none.
 fn read_digit(byte: u8) -> Option<u8>
     ensures { result ≡ digit_value byte }
 {
-    if byte >= b'0' && byte <= b'9' {
-        return Some(byte - b'0');
+    match byte {
+        b'0'..=b'9' => Some(byte - b'0'),
+        b'a'..=b'f' => Some(byte - b'a' + 10),
+        b'A'..=b'F' => Some(byte - b'A' + 10),
+        _ => None,
     }
-    if byte >= b'a' && byte <= b'f' {
-        return Some(byte - b'a' + 10);
-    }
-    if byte >= b'A' && byte <= b'F' {
-        return Some(byte - b'A' + 10);
-    }
-    None
 }
 
 // The value of a digit, and 0 for a byte that is none.
@@ -106,10 +87,7 @@ fn value_of(byte: u8) -> u8
     ensures value { result ≡ value_of (digit_value byte) }
     ensures small { result < 16 }
 {
-    match read_digit(byte) {
-        Some(value) => value,
-        None => 0,
-    }
+    read_digit(byte).unwrap_or(0)
 }
 
 // The digit of a value below 16.

@@ -4,5 +4,5 @@
 pub mod hex;
 pub mod numbers;
 pub mod opening;
-mod order;
+mod settings;
 pub mod task;

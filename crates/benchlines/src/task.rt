@@ -1,9 +1,9 @@
 // What a line asks for by its first word and its number of fields. A line too long is told first, then an unknown word, then a wrong count.
-ghost use Rattle.std.specs.Prelude.{◌≡◌, ◌<◌, ◌≤◌, min, length, IfOk, ◌==◌};
+ghost use Rattle.std.specs.Prelude.{◌≡◌, ◌<◌, ◌≤◌, min, length, IfOk};
 ghost use Rattle.lines.specs.Fields.{fields};
-ghost use Rattle.benchlines.specs.Tasks.{blank, counted, rows_after, rows_task, task_of, FewRows};
+ghost use Rattle.benchlines.specs.Tasks.{blank, counted, rows_after, task_of, FewRows};
 
-use lines::fields::{field, has_field, same};
+use lines::fields::{field, has_field, has_fields};
 use model::fault::LineFault;
 
 // A line may have this many bytes, its newline not counted.
@@ -39,36 +39,16 @@ impl Task {
         if !has_field(line, 0) {
             return Ok(Task::Blank);
         }
-        let word = field(line, 0);
-        if same(word, b"admit") {
-            return counted(line, 5, Task::Admit);
+        match field(line, 0) {
+            b"admit" => counted(line, 5, Task::Admit),
+            b"leave" => counted(line, 2, Task::Leave),
+            b"load" => counted(line, 2, Task::Load),
+            b"save" => counted(line, 1, Task::Save),
+            b"look" => counted(line, 3, Task::Look),
+            b"judge" => Ok(Task::Judge(rows_after(1, count_fields(line))?)),
+            b"allow" => Ok(Task::Allow(rows_after(3, count_fields(line))?)),
+            _ => Err(LineFault::Word),
         }
-        if same(word, b"leave") {
-            return counted(line, 2, Task::Leave);
-        }
-        if same(word, b"load") {
-            return counted(line, 2, Task::Load);
-        }
-        if same(word, b"save") {
-            return counted(line, 1, Task::Save);
-        }
-        if same(word, b"look") {
-            return counted(line, 3, Task::Look);
-        }
-        Task::read_rows(word, count_fields(line))
-    }
-
-    fn read_rows(word: &[u8], count: usize) -> Result<Task, LineFault>
-        ensures task { result ≡ rows_task word.now count }
-        ensures few { IfOk result FewRows }
-    {
-        if same(word, b"judge") {
-            return Ok(Task::Judge(rows_after(1, count)?));
-        }
-        if same(word, b"allow") {
-            return Ok(Task::Allow(rows_after(3, count)?));
-        }
-        Err(LineFault::Word)
     }
 }
 
@@ -102,22 +82,12 @@ fn rows_after(first: usize, count: usize) -> Result<usize, LineFault>
     Err(LineFault::Fields)
 }
 
-// Whether a line has just so many fields, at least one.
-pub(crate) fn has_fields(line: &[u8], count: usize) -> bool
-    requires { 0 < count }
-    ensures { result ≡ (length (fields line.now) == count) }
-{
-    has_field(line, count - 1) && !has_field(line, count)
-}
-
 // How many fields a line has; of more than any line may have, not all are counted.
 pub fn count_fields(line: &[u8]) -> usize
     ensures { result ≡ min 127 (length (fields line.now)) }
 {
-    for place in 0..MANY_FIELDS {
-        if !has_field(line, place) {
-            return place;
-        }
-    }
-    MANY_FIELDS
+    line.split(|byte| *byte == b' ')
+        .filter(|part| !part.is_empty())
+        .count()
+        .min(MANY_FIELDS)
 }
