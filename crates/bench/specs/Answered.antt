@@ -7,7 +7,7 @@ use Rattle.model.specs.declared.fault.LineFault.{LineFault}
 use Rattle.model.specs.declared.fault.RequestFault.{RequestFault}
 use Rattle.model.specs.declared.fault.NamingFault.{NamingFault}
 use Rattle.model.specs.Refusal.{request_number, naming_number, line_number}
-use Rattle.lines.specs.declared.command.AdmitRequest.{AdmitRequest}
+use Rattle.model.specs.declared.wanted.Wanted.{Wanted}
 use Rattle.lines.specs.Numbers.{number_of}
 use Rattle.lines.specs.Commands.{admit_of}
 use Rattle.board.specs.declared.admission.Placed.{Placed}
@@ -38,7 +38,7 @@ admitted_text (Err fault) = refused_at (request_number fault) 0
 
 abbrev pub admit_text :
     {R : Type 0} → (R → R → Bool) → (ℕ → ℤ → ℕ → R) → (List Timing → Bool) → (List Timing → ℕ → ℕ → ℕ) →
-    List (List Row) → Result AdmitRequest LineFault → List ℕ
+    List (List Row) → Result Wanted LineFault → List ℕ
 admit_text first ranks accepts allows plan (Ok a) =
     admitted_text (admitted first ranks accepts allows plan a.key a.budget a.deadline a.period)
 admit_text first ranks accepts allows plan (Err fault) = refused_at (line_number fault) 0

@@ -2,8 +2,8 @@
 use Rattle.std.specs.Prelude.{ℕ, Bool, cond, List, [], ◌∷◌, codes, decimal}
 use Rattle.model.specs.declared.row.Row.{Row}
 use Rattle.model.specs.declared.timing.Timing.{Timing}
-use Rattle.model.specs.Row.{part}
-use Rattle.lines.specs.Replies.{line_of, kind_word}
+use Rattle.model.specs.Row.{part, kind_word}
+use Rattle.lines.specs.Replies.{line_of}
 use Rattle.benchlines.specs.Hex.{digits_of}
 
 -- a refusal with its number and its place

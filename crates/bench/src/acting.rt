@@ -13,7 +13,7 @@ use benchlines::hex::decode_any;
 use benchlines::numbers::number_at;
 use benchlines::task::Task;
 use board::board::Board;
-use lines::command::AdmitRequest;
+use lines::command::AdmitFields;
 use lines::fields::field;
 use model::fault::LineFault;
 use model::judge::{Judge, SizingJudge};
@@ -32,18 +32,8 @@ pub(crate) fn act<J: SizingJudge, P: Placement>(
     match Task::read(line)? {
         Task::Blank => Ok(Answer::Nothing),
         Task::Admit => {
-            let request = AdmitRequest::read(
-                field(line, 1),
-                field(line, 2),
-                field(line, 3),
-                field(line, 4),
-            )?;
-            Ok(Answer::Made(board.admit(
-                request.key,
-                request.budget,
-                request.deadline,
-                request.period,
-            )?))
+            let wanted = AdmitFields::of(line).numbers()?;
+            Ok(Answer::Made(board.admit(wanted)?))
         }
         Task::Leave => {
             let key = number_at(line, 1)?;

@@ -1,102 +1,99 @@
 // A session over an input: the first line sets a board up, which is kept until the input ends.
 use crate::answer::answer;
-use crate::reader::Reader;
 use crate::reply;
 use benchlines::opening::{Opening, Rule, read_opening};
-use benchlines::task::is_blank;
+use benchlines::task::{LONGEST_LINE, is_blank};
 use board::board::Board;
 use board::setup::SetupError;
-use judges::density::Density;
-use judges::either::Either;
-use lines::setup::{JudgeWord, RuleWord};
+use lines::choice::{NamedJudge, Work};
+use lines::line::Line;
+use lines::reader::Reader;
+use model::fault::Numbered;
 use model::judge::SizingJudge;
-use placement::best::Best;
-use placement::fewest::Fewest;
 use placement::rule::Placement;
 use std::alloc::AllocError;
 use std::io;
 use std::io::Read;
 
+// One byte more than a line may have, so that one that is too long shows.
+const KEPT: usize = LONGEST_LINE + 1;
+
 // Waits for the first line, and keeps the board that it asks for.
-pub fn run<I: Read>(rt: &HostRuntime, reader: &mut Reader<I>) -> io::Result<()> {
+pub fn serve<I: Read + Drop>(rt: &HostRuntime, input: I) -> io::Result<()> {
+    let mut reader = Reader::new(input);
     for _ in 0..u64::MAX {
-        if !reader.next_line()? {
-            return Ok(());
-        }
-        if is_blank(reader.text()) {
+        let Some(line) = next_line(&mut reader)? else {
+            break;
+        };
+        if is_blank(line.text()) {
             continue;
         }
-        return match read_opening(reader.text()) {
-            Err(fault) => {
-                let text = reply::refused(rt.alloc(), fault.number(), 0)?;
-                rt.write_all(text.as_bytes())
-            }
-            Ok(opening) => with_judge(rt, reader, opening),
+        return match read_opening(line.text()) {
+            Err(fault) => refuse(rt, &fault),
+            Ok(opening) => keep(rt, &mut reader, opening),
         };
     }
     Ok(())
 }
 
-// One instance of a session for each judge, and then for each rule.
-fn with_judge<I: Read>(
-    rt: &HostRuntime,
-    reader: &mut Reader<I>,
-    opening: Opening,
-) -> io::Result<()> {
-    let demand = opening.demand;
-    match opening.judge {
-        JudgeWord::Density => with_rule(rt, reader, opening, Density),
-        JudgeWord::Demand => with_rule(rt, reader, opening, demand),
-        JudgeWord::Either => with_rule(
+fn next_line<I: Read>(reader: &mut Reader<I>) -> io::Result<Option<Line<KEPT>>> {
+    reader.next_line()
+}
+
+fn refuse<F: Numbered>(rt: &HostRuntime, fault: &F) -> io::Result<()> {
+    let text = reply::refused(rt.alloc(), fault.number(), 0)?;
+    rt.write_all(text.as_bytes())
+}
+
+fn keep<I: Read>(rt: &HostRuntime, reader: &mut Reader<I>, opening: Opening) -> io::Result<()> {
+    let judge = NamedJudge {
+        word: opening.judge,
+        demand: opening.demand,
+    };
+    let session = Session {
+        rt,
+        reader,
+        processors: opening.processors,
+    };
+    match opening.rule {
+        Rule::Named(word) => judge.run_by(word, session),
+        Rule::Listed(listed) => judge.run(listed, session),
+    }
+}
+
+// A session once its board is known.
+struct Session<'a, I> {
+    rt: &'a HostRuntime,
+    reader: &'a mut Reader<I>,
+    processors: u32,
+}
+
+impl<I: Read> Work for Session<'_, I> {
+    type Output = io::Result<()>;
+
+    ghost done = { λ _ _ _ _ _. Unit {0} };
+
+    // Sets the board up, says so, and answers line after line.
+    fn run<J: SizingJudge + Drop, P: Placement + Drop>(self, judge: J, rule: P) -> io::Result<()> {
+        let Session {
             rt,
             reader,
-            opening,
-            Either {
-                first: Density,
-                second: demand,
-            },
-        ),
-    }
-}
-
-fn with_rule<I: Read, J: SizingJudge + Drop>(
-    rt: &HostRuntime,
-    reader: &mut Reader<I>,
-    opening: Opening,
-    judge: J,
-) -> io::Result<()> {
-    let processors = opening.processors;
-    match opening.rule {
-        Rule::Named(RuleWord::Best) => keep(rt, reader, processors, judge, Best),
-        Rule::Named(RuleWord::Fewest) => keep(rt, reader, processors, judge, Fewest),
-        Rule::Listed(listed) => keep(rt, reader, processors, judge, listed),
-    }
-}
-
-// Sets the board up, says so, and answers line after line.
-fn keep<I: Read, J: SizingJudge + Drop, P: Placement + Drop>(
-    rt: &HostRuntime,
-    reader: &mut Reader<I>,
-    processors: u32,
-    judge: J,
-    rule: P,
-) -> io::Result<()> {
-    let mut board = match Board::new(rt.alloc(), processors, judge, rule) {
-        Ok(board) => board,
-        Err(SetupError::Memory) => return Err(io::Error::from(AllocError)),
-        Err(SetupError::Refused(fault)) => {
-            let text = reply::refused(rt.alloc(), fault.number(), 0)?;
-            return rt.write_all(text.as_bytes());
+            processors,
+        } = self;
+        let mut board = match Board::new(rt.alloc(), processors, judge, rule) {
+            Ok(board) => board,
+            Err(SetupError::Memory) => return Err(io::Error::from(AllocError)),
+            Err(SetupError::Refused(fault)) => return refuse(rt, &fault),
+        };
+        let said = reply::opened(rt.alloc(), processors)?;
+        rt.write_all(said.as_bytes())?;
+        for _ in 0..u64::MAX {
+            let Some(line) = next_line(reader)? else {
+                break;
+            };
+            let text = answer(rt.alloc(), &mut board, line.text())?;
+            rt.write_all(text.as_bytes())?;
         }
-    };
-    let said = reply::opened(rt.alloc(), processors)?;
-    rt.write_all(said.as_bytes())?;
-    for _ in 0..u64::MAX {
-        if !reader.next_line()? {
-            break;
-        }
-        let text = answer(rt.alloc(), &mut board, reader.text())?;
-        rt.write_all(text.as_bytes())?;
+        Ok(())
     }
-    Ok(())
 }

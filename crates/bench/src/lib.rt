@@ -5,8 +5,6 @@ mod acting;
 pub mod answer;
 mod asking;
 pub mod driver;
-pub mod reader;
-pub mod reading;
 pub mod refusal;
 pub mod reply;
 mod telling;

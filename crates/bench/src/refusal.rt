@@ -3,7 +3,7 @@ ghost use Rattle.std.specs.Prelude.{◌≡◌};
 ghost use Rattle.bench.specs.declared.refusal.Refusal.TheVariants.{Line, Request, Name, Stored};
 ghost use Rattle.bench.specs.Outcomes.{refusal_number, refusal_place};
 
-use model::fault::{LineFault, NamingFault, RequestFault};
+use model::fault::{LineFault, NamingFault, Numbered, RequestFault};
 use store::fault::BufferFault;
 
 #[derive(Clone, Copy)]

@@ -1,11 +1,10 @@
 // The reply lines.
 ghost use Rattle.std.specs.Prelude.{◌≡◌, IfOk, string_bytes};
-ghost use Rattle.lines.specs.Replies.{kind_word, row_line, gone_line, board_line};
-ghost use Rattle.model.specs.Row.{part};
+ghost use Rattle.lines.specs.Replies.{row_line, gone_line, board_line};
 ghost use Rattle.bench.specs.Replies.{refused_at, image_line, shown_line, timing_line, allowance_line, verdict_line};
 
 use benchlines::hex::encode;
-use model::row::{Kind, Row};
+use model::row::Row;
 use model::timing::Timing;
 use std::alloc::{AllocError, Global};
 
@@ -35,8 +34,8 @@ pub fn shown(heap: Global, row: Row) -> Result<String, AllocError>
     ensures { IfOk result (λ s. string_bytes s ≡ shown_line row) }
 {
     let key = row.key;
-    let kind = kind_text(row.kind);
-    let part = part_of(row.kind);
+    let kind = row.kind;
+    let part = kind.part();
     let timing = timed(heap, row.timing)?;
     format!(in heap; "row {key} {kind} {part} {timing}")
 }
@@ -56,7 +55,7 @@ pub fn placed(heap: Global, processor: u8, row: Row) -> Result<String, AllocErro
     ensures { IfOk result (λ s. string_bytes s ≡ row_line processor row) }
 {
     let key = row.key;
-    let kind = kind_text(row.kind);
+    let kind = row.kind;
     let budget = row.timing.budget;
     let deadline = row.timing.deadline;
     format!(in heap; "{key} {kind} {processor} {budget} {deadline}\n")
@@ -83,25 +82,5 @@ pub(crate) fn verdict(heap: Global, yes: bool) -> Result<String, AllocError>
         String::from_str(heap, "yes\n")
     } else {
         String::from_str(heap, "no\n")
-    }
-}
-
-fn kind_text(kind: Kind) -> &'static str
-    ensures { result.now ≡ kind_word kind }
-{
-    match kind {
-        Kind::Whole => "whole",
-        Kind::Head => "head",
-        Kind::Tail(_) => "tail",
-    }
-}
-
-fn part_of(kind: Kind) -> u8
-    ensures { result ≡ part kind }
-{
-    match kind {
-        Kind::Whole => 0,
-        Kind::Head => 0,
-        Kind::Tail(part) => part,
     }
 }

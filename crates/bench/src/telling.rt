@@ -40,7 +40,7 @@ impl Answer {
                 heap,
                 *key,
                 gathered.keys.as_slice(),
-                board.processors.as_slice(),
+                board.plan.processors.as_slice(),
             ),
             Answer::Saved => stored(heap, "saved", board),
             Answer::Loaded => stored(heap, "loaded", board),

@@ -1,5 +1,4 @@
 pub mod Hexes
-pub mod Parts
 pub mod Reading
 pub mod Words
 pub mod Opened

@@ -6,7 +6,7 @@ use Rattle.lines.specs.declared.setup.JudgeWord.{JudgeWord}
 use Rattle.lines.specs.declared.setup.RuleWord.{RuleWord}
 use Rattle.lines.specs.Numbers.{then_do}
 use Rattle.benchlines.specs.declared.opening.Opening.{Opening}
-use Rattle.benchlines.specs.declared.opening.OpeningFault.{OpeningFault}
+use Rattle.lines.specs.declared.setup.OpeningFault.{OpeningFault}
 use Rattle.benchlines.specs.declared.settings.Settings.{Settings}
 use Rattle.benchlines.specs.Openings.{settings_written, Settled, OpenedBy}
 

@@ -2,7 +2,6 @@
 use Rattle.std.specs.Prelude.{◌≡◌, ℕ, ◌-◌, min, Bool, cond, not, ◌&&◌, ◌||◌, List, [], map, length, is_some, Some, None, Ok, Err, codes, Option, Result, ◌==◌, nat_lt, slice_index_or}
 use Rattle.model.specs.declared.fault.LineFault.{LineFault}
 use Rattle.model.specs.declared.fault.SetupFault.{SetupFault}
-use Rattle.model.specs.Refusal.{setup_number, line_number}
 use Rattle.judges.specs.Setting.{setting_fault}
 use Rattle.placement.specs.declared.listed.Listed.{Listed}
 use Rattle.placement.specs.Order.{listed}
@@ -13,7 +12,7 @@ use Rattle.lines.specs.Numbers.{then_do}
 use Rattle.lines.specs.Setups.{judge_word, rule_word}
 use Rattle.benchlines.specs.declared.opening.Rule.{Rule}
 use Rattle.benchlines.specs.declared.opening.Opening.{Opening}
-use Rattle.benchlines.specs.declared.opening.OpeningFault.{OpeningFault}
+use Rattle.lines.specs.declared.setup.OpeningFault.{OpeningFault}
 use Rattle.benchlines.specs.declared.settings.RuleSetting.{RuleSetting}
 use Rattle.benchlines.specs.declared.settings.Settings.{Settings}
 use Rattle.benchlines.specs.Numbers.{number_at, numbers_at, checked}
@@ -108,7 +107,3 @@ OpenedBy fs (Err told) (Err fault) = fault ≡ OpeningFault.Line told
 -- the board that a first line asks for, or the first refusal that applies
 abbrev pub Opened : List ℕ → Result Opening OpeningFault → Type 0
 Opened line = OpenedBy (fields line) (words_of line)
-
-abbrev pub opening_number : OpeningFault → ℕ
-opening_number (OpeningFault.Line fault) = line_number fault
-opening_number (OpeningFault.Setup fault) = setup_number fault

@@ -1,12 +1,11 @@
 // The first line: `board`, processors, steps, refinements, a judge, and `best`, `fewest`, or `listed` and eight numbers.
 ghost use Rattle.std.specs.Prelude.{◌≡◌};
-ghost use Rattle.benchlines.specs.declared.opening.OpeningFault.TheVariants.{Line, Setup};
-ghost use Rattle.benchlines.specs.Openings.{unfit, order_of, rule_of, Settled, Opened, opening_number};
+ghost use Rattle.benchlines.specs.Openings.{unfit, order_of, rule_of, Settled, Opened};
 
 use crate::settings::{RuleSetting, Settings};
 use judges::demand::Demand;
-use lines::setup::{JudgeWord, RuleWord};
-use model::fault::{LineFault, SetupFault};
+use lines::setup::{JudgeWord, OpeningFault, RuleWord};
+use model::fault::SetupFault;
 use placement::listed::Listed;
 
 // A placement rule: one that has a word of its own, or an order.
@@ -23,40 +22,6 @@ pub struct Opening {
     pub demand: Demand,
     pub judge: JudgeWord,
     pub rule: Rule,
-}
-
-// Why a first line is refused.
-#[derive(Clone, Copy)]
-pub enum OpeningFault {
-    Line(LineFault),
-    Setup(SetupFault),
-}
-
-impl OpeningFault {
-    pub fn number(&self) -> u8
-        ensures { result ≡ opening_number self.now }
-    {
-        match self {
-            OpeningFault::Line(fault) => fault.number(),
-            OpeningFault::Setup(fault) => fault.number(),
-        }
-    }
-}
-
-impl From<LineFault> for OpeningFault {
-    ghost from_gives = { λ fault e. e ≡ Line fault };
-
-    fn from(fault: LineFault) -> OpeningFault {
-        OpeningFault::Line(fault)
-    }
-}
-
-impl From<SetupFault> for OpeningFault {
-    ghost from_gives = { λ fault e. e ≡ Setup fault };
-
-    fn from(fault: SetupFault) -> OpeningFault {
-        OpeningFault::Setup(fault)
-    }
 }
 
 // The board that a first line asks for, or the first refusal that applies: its words, its fields, its numbers, its settings.

@@ -3,6 +3,7 @@ ghost use Rattle.std.specs.Prelude.{◌≡◌, ◌<◌, ◌≤◌, min, length, 
 ghost use Rattle.lines.specs.Fields.{fields};
 ghost use Rattle.benchlines.specs.Tasks.{blank, counted, rows_after, task_of, FewRows};
 
+use lines::command::is_blank_within;
 use lines::fields::{field, has_field, has_fields};
 use model::fault::LineFault;
 
@@ -56,7 +57,7 @@ impl Task {
 pub fn is_blank(line: &[u8]) -> bool
     ensures { result ≡ blank line.now }
 {
-    line.len() <= LONGEST_LINE && !has_field(line, 0)
+    is_blank_within(line, LONGEST_LINE)
 }
 
 // The task, if the line has just so many fields.
@@ -86,8 +87,5 @@ fn rows_after(first: usize, count: usize) -> Result<usize, LineFault>
 pub fn count_fields(line: &[u8]) -> usize
     ensures { result ≡ min 127 (length (fields line.now)) }
 {
-    line.split(|byte| *byte == b' ')
-        .filter(|part| !part.is_empty())
-        .count()
-        .min(MANY_FIELDS)
+    lines::fields::count_fields(line).min(MANY_FIELDS)
 }

@@ -2,7 +2,7 @@
 use Rattle.std.specs.Prelude.{ℕ, Bool, cond, not, ◌&&◌, List, [], ◌∷◌, length, Ok, Err, codes, Result, ◌==◌, nat_lt, slice_index_or}
 use Rattle.model.specs.declared.fault.LineFault.{LineFault}
 use Rattle.lines.specs.declared.command.Command.{Command}
-use Rattle.lines.specs.declared.command.AdmitRequest.{AdmitRequest}
+use Rattle.model.specs.declared.wanted.Wanted.{Wanted}
 use Rattle.lines.specs.declared.command.Request.{Request}
 use Rattle.lines.specs.Fields.{fields, says}
 use Rattle.lines.specs.Numbers.{number_of, then_do}
@@ -46,7 +46,7 @@ told (Ok c) = Ok (worded c)
 told (Err e) = Err e
 
 -- the numbers of an admission
-abbrev pub admit_of : List ℕ → List ℕ → List ℕ → List ℕ → Result AdmitRequest LineFault
+abbrev pub admit_of : List ℕ → List ℕ → List ℕ → List ℕ → Result Wanted LineFault
 admit_of k c d t =
     then_do (number_of k) (λ key. then_do (number_of c) (λ budget. then_do (number_of d) (λ deadline. then_do (number_of t) (λ period.
     Ok (record { key = key; budget = budget; deadline = deadline; period = period })))))

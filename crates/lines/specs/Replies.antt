@@ -1,8 +1,8 @@
 -- The bytes of a reply. Assumes nothing.
 use Rattle.std.specs.Prelude.{◌≡◌, ℕ, ◌+◌, cond, List, [], ◌∷◌, ◌++◌, length, take, drop, Ok, Err, codes, decimal, Result, nat_lt}
 use Rattle.model.specs.declared.fault.LineFault.{LineFault}
-use Rattle.model.specs.declared.row.Kind.{Kind}
 use Rattle.model.specs.declared.row.Row.{Row}
+use Rattle.model.specs.Row.{kind_word}
 use Rattle.lines.specs.declared.reply.Reply.{Reply}
 
 -- a buffer of fewer than 256 bytes is refused before anything is written
@@ -27,11 +27,6 @@ abbrev pub line_of : List (List ℕ) → List ℕ
 line_of [] = 10 ∷ []
 line_of (f ∷ []) = f ++ (10 ∷ [])
 line_of (f ∷ (g ∷ fs)) = f ++ (32 ∷ line_of (g ∷ fs))
-
-abbrev pub kind_word : Kind → List ℕ
-kind_word Kind.Whole = codes "whole"
-kind_word Kind.Head = codes "head"
-kind_word (Kind.Tail p) = codes "tail"
 
 -- a row that was made, on a processor: key, kind, processor, budget, deadline
 abbrev pub row_line : ℕ → Row → List ℕ

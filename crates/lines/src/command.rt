@@ -6,6 +6,7 @@ ghost use Rattle.lines.specs.Commands.{told, worded, counted, command, request_o
 use crate::fields::{field, has_field, has_fields};
 use crate::numbers::read_number;
 use model::fault::LineFault;
+use model::wanted::Wanted;
 
 // A line may have this many bytes, its newline not counted.
 pub const LONGEST_LINE: usize = 80;
@@ -27,19 +28,10 @@ pub enum Command<'a> {
     Leave { key: &'a [u8] },
 }
 
-// A reservation that is asked for, its numbers not judged yet.
-#[derive(Clone, Copy, PartialEq, Eq, Debug)]
-pub struct AdmitRequest {
-    pub key: u32,
-    pub budget: u32,
-    pub deadline: u32,
-    pub period: u32,
-}
-
 #[derive(Clone, Copy, PartialEq, Eq, Debug)]
 pub enum Request {
     Blank,
-    Admit(AdmitRequest),
+    Admit(Wanted),
     Leave { key: u32 },
 }
 
@@ -67,7 +59,7 @@ impl<'a> Command<'a> {
     {
         match self {
             Command::Blank => Ok(Request::Blank),
-            Command::Admit(fields) => Ok(Request::Admit(AdmitRequest::read(fields)?)),
+            Command::Admit(fields) => Ok(Request::Admit(fields.numbers()?)),
             Command::Leave { key } => Ok(Request::Leave {
                 key: read_number(key)?,
             }),
@@ -90,18 +82,16 @@ impl<'a> AdmitFields<'a> {
             period: field(line, 4),
         }
     }
-}
 
-impl AdmitRequest {
-    // The four numbers of an admission.
-    pub fn read(text: &AdmitFields<'_>) -> Result<AdmitRequest, LineFault>
-        ensures { result ≡ admit_of text.now.key.now text.now.budget.now text.now.deadline.now text.now.period.now }
+    // The numbers that the fields write, not judged yet.
+    pub fn numbers(&self) -> Result<Wanted, LineFault>
+        ensures { result ≡ admit_of self.now.key.now self.now.budget.now self.now.deadline.now self.now.period.now }
     {
-        Ok(AdmitRequest {
-            key: read_number(text.key)?,
-            budget: read_number(text.budget)?,
-            deadline: read_number(text.deadline)?,
-            period: read_number(text.period)?,
+        Ok(Wanted {
+            key: read_number(self.key)?,
+            budget: read_number(self.budget)?,
+            deadline: read_number(self.deadline)?,
+            period: read_number(self.period)?,
         })
     }
 }

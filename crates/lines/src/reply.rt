@@ -1,11 +1,11 @@
 // Replies: lines one after the other, made in memory that is fixed, and written over a buffer that the caller lends.
 ghost use Rattle.std.specs.Prelude.{◌≡◌, ◌+◌, ◌≤◌, [], ◌++◌, length, decimal};
-ghost use Rattle.lines.specs.Replies.{room, Wrote, text_of, kind_word, row_line, gone_line, board_line, refused_line};
+ghost use Rattle.lines.specs.Replies.{room, Wrote, text_of, row_line, gone_line, board_line, refused_line};
 
 use arrayvec::ArrayString;
 use itoa::Buffer;
 use model::fault::LineFault;
-use model::row::{Kind, Row};
+use model::row::Row;
 
 // A reply buffer has at least this many bytes: eight rows and a reservation that left take at most 251.
 pub const REPLY_ROOM: usize = 256;
@@ -63,7 +63,7 @@ impl<const N: usize> Reply<N> {
         ensures short { length (text_of self.new) ≤ length (text_of self.old) + 30 }
     {
         self.number(row.key as u32, " ");
-        self.word(kind_text(row.kind), " ");
+        self.word(row.kind.word(), " ");
         self.number(processor as u32, " ");
         self.number(row.timing.budget, " ");
         self.number(row.timing.deadline, "\n");
@@ -117,17 +117,5 @@ impl<const N: usize> Reply<N> {
     {
         let mut digits = Buffer::new();
         self.word(digits.format(number), end);
-    }
-}
-
-// The word of a kind.
-pub fn kind_text(kind: Kind) -> &'static str
-    ensures text { result.now ≡ kind_word kind }
-    ensures short { length result.now ≤ 5 }
-{
-    match kind {
-        Kind::Whole => "whole",
-        Kind::Head => "head",
-        Kind::Tail(_) => "tail",
     }
 }

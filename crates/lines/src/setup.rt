@@ -1,12 +1,13 @@
 // What the first line sets up: `board`, processors, steps, refinements, a judge and a placement rule.
 ghost use Rattle.std.specs.Prelude.{◌≡◌};
 ghost use Rattle.lines.specs.Fields.{fields};
+ghost use Rattle.std.proofs.Common.{rules};
 ghost use Rattle.lines.specs.Setups.{judge_word, rule_word, unknown_word, settings, setup_of, opening_number};
 
 use crate::command::LONGEST_LINE;
 use crate::fields::{field, has_field, has_fields, same};
 use crate::numbers::read_number;
-use model::fault::{LineFault, SetupFault};
+use model::fault::{LineFault, Numbered, SetupFault};
 
 #[derive(Clone, Copy, PartialEq, Eq, Debug)]
 pub enum JudgeWord {
@@ -58,10 +59,12 @@ impl From<SetupFault> for OpeningFault {
     }
 }
 
-impl OpeningFault {
-    pub fn number(&self) -> u8
-        ensures { result ≡ opening_number self.now }
-    {
+impl Numbered for OpeningFault {
+    ghost numbered = { opening_number };
+
+    ghost distinct = { Prim.search rules };
+
+    fn number(&self) -> u8 {
         match self {
             OpeningFault::Line(fault) => fault.number(),
             OpeningFault::Setup(fault) => fault.number(),

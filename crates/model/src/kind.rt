@@ -1,5 +1,5 @@
 // What a row's kind says.
-ghost use Rattle.std.specs.Prelude.{◌≡◌, ◌≤◌, Some};
+ghost use Rattle.std.specs.Prelude.{◌≡◌, ◌≤◌, length, Some};
 ghost use Rattle.model.specs.Row.{is_tail, part, kind_word, due};
 
 use crate::row::{Kind, Row};
@@ -24,7 +24,8 @@ impl Kind {
 
     // How it is written in replies.
     pub fn word(&self) -> &'static str
-        ensures { result.now ≡ kind_word self.now }
+        ensures text { result.now ≡ kind_word self.now }
+        ensures short { length result.now ≤ 5 }
     {
         match self {
             Kind::Whole => "whole",

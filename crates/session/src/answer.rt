@@ -14,7 +14,7 @@ use board::board::Board;
 use board::gathered::Gathered;
 use lines::command::{Command, Request};
 use lines::reply::{REPLY_ROOM, Reply, check_room};
-use model::fault::{LineFault, NamingFault, RequestFault};
+use model::fault::{LineFault, NamingFault, Numbered, RequestFault};
 use model::judge::SizingJudge;
 use placement::rule::Placement;
 use processor::rows::Processor;
@@ -35,12 +35,12 @@ pub fn answer<J: SizingJudge, P: Placement>(
         Err(fault) => refusal(fault.number()),
         Ok(Request::Blank) => Reply::new(),
         Ok(Request::Admit(asked)) => {
-            let admitted = board.admit(asked.key, asked.budget, asked.deadline, asked.period);
+            let admitted = board.admit(asked);
             admission(&admitted)
         }
         Ok(Request::Leave { key }) => {
             let withdrawn = board.withdraw(key);
-            withdrawal(key, &withdrawn, board.processors.as_slice())
+            withdrawal(key, &withdrawn, board.plan.processors.as_slice())
         }
     };
     Ok(said.put(reply, 0))

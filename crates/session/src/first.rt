@@ -8,7 +8,7 @@ ghost use Rattle.session.specs.Opened.{first_text, Read, Opened, Comes, said, en
 use lines::command::is_blank;
 use lines::reply::{REPLY_ROOM, Reply, check_room};
 use lines::setup::{JudgeWord, OpeningFault, RuleWord, Setup};
-use model::fault::LineFault;
+use model::fault::{LineFault, Numbered};
 use wadispoon::sizes::Sizes;
 
 // The board that a first line asks for.
