@@ -11,6 +11,7 @@ ghost use Rattle.judges.specs.Table.{Slacks};
 
 use model::share::SCALE;
 use model::timing::Timing;
+use std::array;
 
 // The approximate demand of a list: exact for so many steps of each timing, and from there on a line.
 #[derive(Drop)]
@@ -90,15 +91,22 @@ impl<'a> Curve<'a> {
         (0..self.steps + 1).all(|k| self.fits(point(x, k)))
     }
 
-    // The slack at each check-point of a timing, in an array for the most that there may be.
+    // The slack at each check-point of a timing.
     pub(crate) fn slacks(&self, x: &Timing) -> [u64; 10]
         ensures { Slacks scale self.now.steps self.now.list.now x.now (suc self.now.steps) result }
     {
-        let mut row = [0; 10];
-        for (k, free) in row[..=self.steps as usize].iter_mut().enumerate() {
-            *free = self.slack(point(x, k as u8));
+        array::from_fn(|k| self.slack_at(x, k))
+    }
+
+    // That at check-point k, and 0 past the last.
+    fn slack_at(&self, x: &Timing, k: usize) -> u64
+        ensures { k ≤ self.now.steps → result ≡ slack scale self.now.steps self.now.list.now (point x.now k) }
+    {
+        if k <= self.steps as usize {
+            self.slack(point(x, k as u8))
+        } else {
+            0
         }
-        row
     }
 }
 
