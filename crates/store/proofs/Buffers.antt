@@ -55,12 +55,12 @@ abbrev pub Left : Writer → Writer → List ℕ → List ℕ → Type 0
 Left start here rest all = (w : Writer) → Wrote here w rest → Wrote start w all
 
 -- a turn of a loop that writes
-pub left_more :
+pub write_more :
     (start here next : Writer) (bytes more rest all : List ℕ) → Wrote here next bytes → here.at ≤ length here.buffer.now → rest ≡ bytes ++ more →
     Left start here rest all → Left start next more all
-left_more start here next bytes more rest all wrote within split left =
+write_more start here next bytes more rest all wrote within split left =
     λ w h. left w (subst (Wrote here w) (sym split) (wrote_both here next w bytes more wrote h within))
 
 -- its end
-pub left_none : (start here : Writer) (rest all : List ℕ) → rest ≡ [] → Left start here rest all → Wrote start here all
-left_none start here rest all none left = left here (subst (Wrote here here) (sym none) (wrote_none here))
+pub write_all : (start here : Writer) (rest all : List ℕ) → rest ≡ [] → Left start here rest all → Wrote start here all
+write_all start here rest all none left = left here (subst (Wrote here here) (sym none) (wrote_none here))

@@ -55,10 +55,6 @@ pub refused :
 refused true f e r value err = (refl, cc)
 refused false f e r value err = let z : ◌≡◌ {A = ℕ} 0 1 = cc in absurd (omega arith)
 
--- a number that is not barred is that of a record
-pub within : (r number : ℕ) (reached : List Bool) → barred r reached number ≡ false → number ≤ r
-within r number reached open' = ltb-false r number (or_parts (ltb r number) (get_or reached (number - 1) false) open').0
-
 -- a turn of the loop that follows a chain
 pub walk_again :
     (next : ℕ → ℕ) (r number number' : ℕ) (so_far so-far' : List ℕ) (reached reached' : List Bool)
