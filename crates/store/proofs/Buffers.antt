@@ -1,5 +1,5 @@
 -- One write into a buffer after another. Assumes nothing.
-use Rattle.std.proofs.Common.{◌≡◌, ℕ, ◌+◌, ◌≤◌, List, [], ◌++◌, length, take, drop, sym, ap, ◌∙◌, append_assoc, add-zero, arith, length-append, length-drop, subst}
+use Rattle.std.proofs.Common.{◌≡◌, ℕ, ◌+◌, ◌≤◌, List, [], ◌++◌, length, take, drop, sym, refl, ap, ◌∙◌, append_assoc, add-zero, arith, length-append, length-drop, subst}
 use Rattle.std.proofs.lemmas.List.{take_at, drop_at, drop-drop, take-append-drop, length-take-le}
 use Rattle.store.specs.declared.writer.Writer.{Writer}
 use Rattle.store.specs.Buffer.{overwritten}
@@ -42,13 +42,14 @@ pub wrote_both :
     (a b c : Writer) (x y : List ℕ) → Wrote a b x → Wrote b c y → a.at ≤ length a.buffer.now → Wrote a c (x ++ y)
 wrote_both a b c x y p q within =
     record {
+      same = q.same ∙ p.same;
       buffer =
           q.buffer ∙ (ap (λ s. overwritten s b.at y) p.buffer ∙ overwritten_more a.buffer.now a.at x y b.at p.at within);
       at = omega (arith, p.at, q.at, length-append x y);
     }
 
 wrote_none : (a : Writer) → Wrote a a []
-wrote_none a = record { buffer = sym (overwritten_none a.buffer.now a.at); at = sym (add-zero a.at) }
+wrote_none a = record { same = refl; buffer = sym (overwritten_none a.buffer.now a.at); at = sym (add-zero a.at) }
 
 -- whatever writes the rest from here on has written all from the start on
 abbrev pub Left : Writer → Writer → List ℕ → List ℕ → Type 0

@@ -1,9 +1,7 @@
 -- Records read by number, one on, and rows picked along a chain. Assumes nothing.
-use Rattle.std.proofs.Common.{◌≡◌, ℕ, suc, ◌+◌, ◌-◌, ◌<◌, ◌≤◌, true, false, List, [], ◌∷◌, ◌++◌, map, length, get_or, take, Some, None, sym, refl, ap, ◌∙◌, subst, ⊎_elim, arith, length-take}
-use Rattle.std.specs.List.{AllByRecursion}
-use Rattle.std.proofs.lemmas.List.{map_more, map_push, get_or_read, get_or_append_left, get_or_push, get_or-map, length-map}
+use Rattle.std.proofs.Common.{◌≡◌, ℕ, suc, ◌+◌, ◌-◌, ◌<◌, ◌≤◌, true, false, List, [], ◌∷◌, ◌++◌, map, length, get_or, take, Some, None, refl, ⊎_elim, arith, length-take}
+use Rattle.std.proofs.lemmas.List.{map_more, map_push, get_or_append_left, get_or_push}
 use Rattle.std.proofs.lemmas.Bool.{cases_lt}
-use Rattle.std.proofs.ByRecursion.{All-get_or}
 use Rattle.model.specs.declared.row.Row.{Row}
 use Rattle.processor.specs.declared.few.Few.{Few}
 use Rattle.processor.specs.Few.{held}
@@ -11,7 +9,7 @@ use Rattle.store.specs.declared.entry.Entry.{Entry}
 use Rattle.store.specs.declared.fault.BufferRule.{BufferRule}
 use Rattle.store.specs.Fault.{fault}
 use Rattle.store.specs.Record.{entry, bad_entry}
-use Rattle.store.specs.Records.{record_fault, picked, Numbered}
+use Rattle.store.specs.Records.{record_fault, picked}
 
 pub record_suc :
     (says : ℕ → Entry) (left number : ℕ) → bad_entry (says number) ≡ false →

@@ -1,8 +1,7 @@
 -- The entries of an image from its header, chains and records. Assumes nothing.
-use Rattle.std.proofs.Common.{◌≡◌, ℕ, ◌+◌, ◌<◌, List, map, get_or, Some, None, Ok, Err, sym, ap, ◌∙◌}
+use Rattle.std.proofs.Common.{◌≡◌, ℕ, ◌+◌, ◌<◌, List, map, get_or, None, Ok, sym, ap, ◌∙◌}
 use Rattle.model.specs.declared.row.Row.{Row}
 use Rattle.store.specs.declared.image.Image.{Image}
-use Rattle.store.specs.declared.fault.BufferFault.{BufferFault}
 use Rattle.store.specs.Header.{header_fault, record_count}
 use Rattle.store.specs.Read.{Headed}
 use Rattle.store.specs.Record.{entry, entry_at, next_at}

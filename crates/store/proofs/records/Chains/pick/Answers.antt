@@ -1,9 +1,8 @@
-use Rattle.std.proofs.Common.{map, length, sym, ap, ◌∙◌, subst, arith}
-use Rattle.std.specs.List.{AllByRecursion}
+use Rattle.std.proofs.Common.{map, ap, ◌∙◌, arith}
 use Rattle.std.proofs.lemmas.List.{take_all}
 use Rattle.processor.specs.Few.{held}
 use Rattle.store.specs.InPlace.{all_held}
-use Rattle.store.specs.Records.{Numbered, picked}
+use Rattle.store.specs.Records.{picked}
 use Rattle.store.proofs.ByNumber.{picks_more}
 use Rattle.store.proofs.records.Chains.pick.Goals as goal
 

@@ -9,10 +9,9 @@ pub loop-i-preserved : goal.loop-i-preserved
 loop-i-preserved c =
     let inv = c.loop-i.invariant in
     let here = c.loop-i.self in
-    let wrote = c.put.ensures.wrote in
+    let wrote = c.put.ensures in
     let n : c.args.from + c.loop-i.i + 1 ≡ c.args.from + (c.loop-i.i + 1) = omega arith in
     record {
-      same = c.put.ensures.same_reference ∙ inv.same;
       long = ap length wrote.buffer ∙ length_overwritten here.buffer.now here.at c.record.result (omega (arith, inv.at, inv.long)) ∙ inv.long;
       at = omega (arith, wrote.at, inv.at);
       left = subst (λ k. Left c.args.self.now c.put.new.self (chain_bytes k (drop (c.loop-i.i + 1) c.args.rows.now)) (chain_bytes c.args.from c.args.rows.now)) n
@@ -21,7 +20,7 @@ loop-i-preserved c =
           (omega arith) c.index-rows-i.is c.record.ensures c.next_of.ensures) inv.left);
     }
 
-pub returns-clause-wrote : goal.returns-clause-wrote
-returns-clause-wrote c =
+pub returns : goal.returns
+returns c =
     write_all c.args.self.now c.loop-i.self _ _
     (at_drop_all (chain_bytes (c.args.from + c.loop-i.i)) c.args.rows.now c.loop-i.i (omega arith)) c.loop-i.invariant.left

@@ -11,9 +11,8 @@ pub loop-p-preserved : goal.loop-p-preserved
 loop-p-preserved g c =
     let inv = c.loop-p.invariant in
     let here = c.loop-p.self in
-    let wrote = c.put.ensures.wrote in
+    let wrote = c.put.ensures in
     record {
-      same = c.put.ensures.same_reference ∙ inv.same;
       long = ap length wrote.buffer ∙ length_overwritten here.buffer.now here.at c.two.result (omega (arith, inv.at, inv.long)) ∙ inv.long;
       at = omega (arith, wrote.at, inv.at);
       few = omega arith;
@@ -23,8 +22,8 @@ loop-p-preserved g c =
           (omega arith) c.p-item.is c.two.ensures c.first_of.ensures (omega arith)) inv.left;
     }
 
-pub returns-clause-wrote : goal.returns-clause-wrote
-returns-clause-wrote g c =
+pub returns : goal.returns
+returns g c =
     subst (λ ps. Wrote c.args.self.now c.loop-p.self (heads_bytes 1 (map rows_of ps))) c.as_slice-p-items.ensures.value
     (write_all c.args.self.now c.loop-p.self _ _
     (seen_all rows_of (heads_bytes c.loop-p.number) c.as_slice-p-items.result.now c.loop-p.p-index (omega arith)) c.loop-p.invariant.left)
