@@ -1,5 +1,5 @@
 -- One write into a buffer after another. Assumes nothing.
-use Rattle.std.proofs.Common.{◌≡◌, ℕ, ◌+◌, ◌≤◌, List, [], ◌++◌, length, take, drop, sym, ap, ◌∙◌, append_assoc, add-zero, arith, length-append, length-drop, subst}
+use Rattle.std.proofs.Common.{◌≡◌, ℕ, ◌+◌, ◌≤◌, List, [], ◌++◌, length, take, drop, sym, refl, ap, ◌∙◌, append_assoc, add-zero, arith, length-append, length-drop, subst}
 use Rattle.std.proofs.lemmas.List.{take_at, drop_at, drop-drop, take-append-drop, length-take-le}
 use Rattle.store.specs.declared.writer.Writer.{Writer}
 use Rattle.store.specs.Buffer.{overwritten}
@@ -42,25 +42,26 @@ pub wrote_both :
     (a b c : Writer) (x y : List ℕ) → Wrote a b x → Wrote b c y → a.at ≤ length a.buffer.now → Wrote a c (x ++ y)
 wrote_both a b c x y p q within =
     record {
+      same = q.same ∙ p.same;
       buffer =
           q.buffer ∙ (ap (λ s. overwritten s b.at y) p.buffer ∙ overwritten_more a.buffer.now a.at x y b.at p.at within);
       at = omega (arith, p.at, q.at, length-append x y);
     }
 
 wrote_none : (a : Writer) → Wrote a a []
-wrote_none a = record { buffer = sym (overwritten_none a.buffer.now a.at); at = sym (add-zero a.at) }
+wrote_none a = record { same = refl; buffer = sym (overwritten_none a.buffer.now a.at); at = sym (add-zero a.at) }
 
 -- whatever writes the rest from here on has written all from the start on
 abbrev pub Left : Writer → Writer → List ℕ → List ℕ → Type 0
 Left start here rest all = (w : Writer) → Wrote here w rest → Wrote start w all
 
 -- a turn of a loop that writes
-pub left_more :
+pub write_more :
     (start here next : Writer) (bytes more rest all : List ℕ) → Wrote here next bytes → here.at ≤ length here.buffer.now → rest ≡ bytes ++ more →
     Left start here rest all → Left start next more all
-left_more start here next bytes more rest all wrote within split left =
+write_more start here next bytes more rest all wrote within split left =
     λ w h. left w (subst (Wrote here w) (sym split) (wrote_both here next w bytes more wrote h within))
 
 -- its end
-pub left_none : (start here : Writer) (rest all : List ℕ) → rest ≡ [] → Left start here rest all → Wrote start here all
-left_none start here rest all none left = left here (subst (Wrote here here) (sym none) (wrote_none here))
+pub write_all : (start here : Writer) (rest all : List ℕ) → rest ≡ [] → Left start here rest all → Wrote start here all
+write_all start here rest all none left = left here (subst (Wrote here here) (sym none) (wrote_none here))

@@ -1,9 +1,7 @@
 -- Records read by number, one on, and rows picked along a chain. Assumes nothing.
-use Rattle.std.proofs.Common.{◌≡◌, ℕ, suc, ◌+◌, ◌-◌, ◌<◌, ◌≤◌, true, false, List, [], ◌∷◌, ◌++◌, map, length, get_or, take, Some, None, sym, refl, ap, ◌∙◌, subst, ⊎_elim, arith, length-take}
-use Rattle.std.specs.List.{AllByRecursion}
-use Rattle.std.proofs.lemmas.List.{map_more, map_push, get_or_read, get_or_append_left, get_or_push, get_or-map, length-map}
+use Rattle.std.proofs.Common.{◌≡◌, ℕ, suc, ◌+◌, ◌-◌, ◌<◌, ◌≤◌, true, false, List, [], ◌∷◌, ◌++◌, map, length, get_or, take, Some, None, refl, ⊎_elim, arith, length-take}
+use Rattle.std.proofs.lemmas.List.{map_more, map_push, get_or_append_left, get_or_push}
 use Rattle.std.proofs.lemmas.Bool.{cases_lt}
-use Rattle.std.proofs.ByRecursion.{All-get_or}
 use Rattle.model.specs.declared.row.Row.{Row}
 use Rattle.processor.specs.declared.few.Few.{Few}
 use Rattle.processor.specs.Few.{held}
@@ -11,7 +9,7 @@ use Rattle.store.specs.declared.entry.Entry.{Entry}
 use Rattle.store.specs.declared.fault.BufferRule.{BufferRule}
 use Rattle.store.specs.Fault.{fault}
 use Rattle.store.specs.Record.{entry, bad_entry}
-use Rattle.store.specs.Records.{record_fault, picked, Numbered}
+use Rattle.store.specs.Records.{record_fault, picked}
 
 pub record_suc :
     (says : ℕ → Entry) (left number : ℕ) → bad_entry (says number) ≡ false →
@@ -54,19 +52,6 @@ read_more says rows after row pushed here before k d h =
     let same : k ≡ length rows = omega arith in rw (same, get_or_push rows row d (length rows) refl) here)
     (cases_lt k (length rows)))
 
--- the number at a place of a chain
-pub numbered_at : (r : ℕ) (numbers : List ℕ) (i : ℕ) → i < length numbers → Numbered r numbers → (1 ≤ get_or numbers i 0) × (get_or numbers i 0 ≤ r)
-numbered_at r numbers i h all = All-get_or (λ n. (1 ≤ n) × (n ≤ r)) numbers i 0 h all
-
-pub pick_more :
-    (rows : List Row) (numbers : List ℕ) (i : ℕ) (row : Row) (before after : List Row) → i < length numbers →
-    get_or numbers i 0 - 1 < length rows → row ≡ get_or rows (get_or numbers i 0 - 1) row → after ≡ before ++ (row ∷ []) →
-    ((d : Row) → before ≡ picked rows d (take i numbers)) → (d : Row) → after ≡ picked rows d (take (i + 1) numbers)
-pick_more rows numbers i row before after h within is pushed so_far d =
-    pushed ∙ (ap (λ l. l ++ (row ∷ [])) (so_far d)
-    ∙ (ap (λ x. picked rows d (take i numbers) ++ (x ∷ [])) (get_or_read rows (get_or numbers i 0 - 1) row within is d)
-    ∙ sym (map_more (λ n. get_or rows (n - 1) d) numbers i 0 h)))
-
 pub picks_more :
     (rows : List Row) (chains : List (Few ℕ 32)) (i : ℕ) (chain : Few ℕ 32) (before after : List (List Row)) (new : List Row) → i < length chains →
     chain ≡ get_or chains i chain → ((d : Row) → new ≡ picked rows d (held chain)) → after ≡ before ++ (new ∷ []) →
@@ -77,12 +62,3 @@ picks_more rows chains i chain before after new h is here pushed so_far d =
 
 pub length_held : {X : Type 0} {n : ℕ} (l : Few X n) → length (held l) ≤ n
 length_held l = omega (arith, length-take l.len l.items)
-
--- the numbers of a chain that was read, through a slice of them
-pub numbered_chain :
-    (r : ℕ) (chains : List (Few ℕ 32)) (i : ℕ) (chain : Few ℕ 32) (numbers : List ℕ) → i < length chains → chain ≡ get_or chains i chain →
-    numbers ≡ held chain → AllByRecursion (Numbered r) (map held chains) → (length numbers ≤ 32) × Numbered r numbers
-numbered_chain r chains i chain numbers h is same all =
-    let there : i < length (map held chains) = omega (arith, length-map chains held) in
-    let here = All-get_or (Numbered r) (map held chains) i (held chain) there all in
-    (rw same (length_held chain), rw same (subst (Numbered r) (get_or-map held chains i chain (held chain) h ∙ ap held (sym is)) here))

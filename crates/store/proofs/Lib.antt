@@ -5,7 +5,6 @@ pub mod Saves
 pub mod Walks
 pub mod ByNumber
 pub mod Pieces
-pub mod Fills
 pub mod Reaches
 pub mod Unpacks
 pub mod Loads

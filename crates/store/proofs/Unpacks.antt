@@ -1,8 +1,7 @@
 -- The entries of an image from its header, chains and records. Assumes nothing.
-use Rattle.std.proofs.Common.{◌≡◌, ℕ, ◌+◌, ◌<◌, List, map, get_or, Some, None, Ok, Err, sym, ap, ◌∙◌}
+use Rattle.std.proofs.Common.{◌≡◌, ℕ, ◌+◌, ◌<◌, List, map, get_or, None, Ok, sym, ap, ◌∙◌}
 use Rattle.model.specs.declared.row.Row.{Row}
 use Rattle.store.specs.declared.image.Image.{Image}
-use Rattle.store.specs.declared.fault.BufferFault.{BufferFault}
 use Rattle.store.specs.Header.{header_fault, record_count}
 use Rattle.store.specs.Read.{Headed}
 use Rattle.store.specs.Record.{entry, entry_at, next_at}
@@ -24,24 +23,14 @@ module _ (m : ℕ) (bytes : List ℕ) (i : Image) (is : Headed m bytes (Ok i)) w
       ≡ along (entry_at i.processors i.bytes.now) i.records (chains (head_at i.bytes.now) (next_at i.processors i.bytes.now) i.processors i.records)
   entries_of = rw (is.1, is.2, is.3) (entries_along m bytes is.0)
 
-  pub entries_refused :
-      (f : BufferFault) → chains (head_at i.bytes.now) (next_at i.processors i.bytes.now) i.processors i.records ≡ Err f → entries m bytes ≡ Err f
-  entries_refused f refused = entries_of ∙ ap (along (entry_at i.processors i.bytes.now) i.records) refused
-
-  module _ (l : List (List ℕ)) (chained : chains (head_at i.bytes.now) (next_at i.processors i.bytes.now) i.processors i.records ≡ Ok l) where
-    pub entries_unread : (f : BufferFault) → record_fault (entry_at i.processors i.bytes.now) i.records 1 ≡ Some f → entries m bytes ≡ Err f
-    entries_unread f bad =
-        entries_of
-        ∙ (ap (along (entry_at i.processors i.bytes.now) i.records) chained
-        ∙ ap (λ h. unless h (Ok (map (map (entry_at i.processors i.bytes.now)) l))) bad)
-
-    pub entries_read :
-        (rows : List Row) (result : List (List Row)) → record_fault (entry_at i.processors i.bytes.now) i.records 1 ≡ None →
-        ((k : ℕ) (d : Row) → k < i.records → entry (get_or rows k d) ≡ entry_at i.processors i.bytes.now (k + 1)) →
-        ((d : Row) → result ≡ map (picked rows d) l) → entries m bytes ≡ Ok (map (map entry) result)
-    entries_read rows result good read picks =
-        let numbered = chains_numbered (head_at i.bytes.now) (next_at i.processors i.bytes.now) i.processors i.records l chained in
-        entries_of
-        ∙ (ap (along (entry_at i.processors i.bytes.now) i.records) chained
-        ∙ (ap (λ h. unless h (Ok (map (map (entry_at i.processors i.bytes.now)) l))) good
-        ∙ ap Ok (sym (ap (map (map entry)) (picks blank) ∙ picked_all (entry_at i.processors i.bytes.now) rows i.records blank read l numbered))))
+  pub entries_read :
+      (l : List (List ℕ)) (rows : List Row) (result : List (List Row)) →
+      chains (head_at i.bytes.now) (next_at i.processors i.bytes.now) i.processors i.records ≡ Ok l → record_fault (entry_at i.processors i.bytes.now) i.records 1 ≡ None →
+      ((k : ℕ) (d : Row) → k < i.records → entry (get_or rows k d) ≡ entry_at i.processors i.bytes.now (k + 1)) →
+      ((d : Row) → result ≡ map (picked rows d) l) → entries m bytes ≡ Ok (map (map entry) result)
+  entries_read l rows result chained good read picks =
+      let numbered = chains_numbered (head_at i.bytes.now) (next_at i.processors i.bytes.now) i.processors i.records l chained in
+      entries_of
+      ∙ (ap (along (entry_at i.processors i.bytes.now) i.records) chained
+      ∙ (ap (λ h. unless h (Ok (map (map (entry_at i.processors i.bytes.now)) l))) good
+      ∙ ap Ok (sym (ap (map (map entry)) (picks blank) ∙ picked_all (entry_at i.processors i.bytes.now) rows i.records blank read l numbered))))

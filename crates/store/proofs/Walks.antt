@@ -1,7 +1,7 @@
 -- A chain's walk, one record on and at its end. Assumes nothing.
-use Rattle.std.proofs.Common.{◌≡◌, ℕ, zero, suc, ◌+◌, ◌-◌, ◌<◌, ◌≤◌, Bool, true, false, cond, ◌≢◌, List, [], ◌∷◌, ◌++◌, ltb, length, get_or, take, replicate, Some, None, Ok, Err, Option, Result, sym, refl, ap, ◌∙◌, arith}
+use Rattle.std.proofs.Common.{◌≡◌, ℕ, zero, suc, ◌+◌, ◌-◌, ◌<◌, ◌≤◌, Bool, true, false, cond, ◌≢◌, List, [], ◌∷◌, ◌++◌, length, take, replicate, Some, None, Ok, Err, Option, Result, sym, refl, ap, ◌∙◌, arith}
 use Rattle.std.proofs.lemmas.List.{length_push}
-use Rattle.std.proofs.lemmas.Bool.{eq-eqb, ne_eqb, ltb-false, or_parts}
+use Rattle.std.proofs.lemmas.Bool.{eq-eqb, ne_eqb}
 use Rattle.store.specs.declared.fault.BufferFault.{BufferFault}
 use Rattle.store.specs.declared.fault.BufferRule.{BufferRule}
 use Rattle.store.specs.Fault.{fault}
@@ -54,10 +54,6 @@ pub refused :
     (b ≡ true) × (e ≡ f)
 refused true f e r value err = (refl, cc)
 refused false f e r value err = let z : ◌≡◌ {A = ℕ} 0 1 = cc in absurd (omega arith)
-
--- a number that is not barred is that of a record
-pub within : (r number : ℕ) (reached : List Bool) → barred r reached number ≡ false → number ≤ r
-within r number reached open' = ltb-false r number (or_parts (ltb r number) (get_or reached (number - 1) false) open').0
 
 -- a turn of the loop that follows a chain
 pub walk_again :

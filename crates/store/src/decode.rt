@@ -8,6 +8,7 @@ ghost use Rattle.store.specs.Read.{Headed};
 use crate::entry::Entry;
 use crate::fault::{BufferFault, BufferRule};
 use crate::image::Image;
+use crate::layout::image_length;
 
 impl<'a> Image<'a> {
     // The image, if its header suits a board of so many processors and its own length.
@@ -25,7 +26,7 @@ impl<'a> Image<'a> {
             return Err(BufferRule::Processors.anywhere());
         }
         let records = two_at(bytes, 2) as usize;
-        if records > 256 || bytes.len() != 4 + 2 * processors + 18 * records {
+        if records > 256 || bytes.len() != image_length(processors, records) {
             return Err(BufferRule::Length.anywhere());
         }
         Ok(Image {
@@ -73,7 +74,7 @@ impl<'a> Image<'a> {
         ensures value { result ≡ start self.now.processors number }
         ensures within { result + 18 ≤ length self.now.bytes.now }
     {
-        4 + 2 * self.processors + 18 * (number as usize - 1)
+        image_length(self.processors, number as usize - 1)
     }
 }
 

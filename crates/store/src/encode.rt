@@ -20,7 +20,7 @@ pub(crate) fn two(number: u16) -> [u8; 2]
     number.to_le_bytes()
 }
 
-// A row and the number of the record that follows it, as a record.
+// A row and the number of the record that follows it, as a record. Written out: arrays have no `++`, and copies into parts are longer.
 pub(crate) fn record(next: u16, row: &Row) -> [u8; 18]
     ensures { result ≡ record_bytes next row.now }
 {

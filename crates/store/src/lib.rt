@@ -10,6 +10,7 @@ mod filling;
 mod image;
 mod judging;
 mod keys;
+mod layout;
 mod lists;
 pub mod load;
 mod records;

@@ -7,6 +7,7 @@ ghost use Rattle.store.specs.Save.{saved, buffer_after};
 
 use crate::encode::header;
 use crate::fault::{BufferFault, BufferRule};
+use crate::layout::image_length;
 use crate::writer::Writer;
 use board::board::Board;
 
@@ -15,7 +16,7 @@ pub fn save<J, P>(board: &Board<J, P>, buffer: &mut [u8]) -> Result<usize, Buffe
     ensures value { result ≡ saved (plan board.now) buffer.old }
     ensures after { buffer.new ≡ buffer_after (plan board.now) buffer.old }
 {
-    let length = image_length(board);
+    let length = length_of(board);
     if buffer.len() < length {
         return Err(BufferRule::Room.anywhere());
     }
@@ -23,10 +24,10 @@ pub fn save<J, P>(board: &Board<J, P>, buffer: &mut [u8]) -> Result<usize, Buffe
     Ok(length)
 }
 
-fn image_length<J, P>(board: &Board<J, P>) -> usize
+fn length_of<J, P>(board: &Board<J, P>) -> usize
     ensures { result ≡ length (image (plan board.now)) }
 {
-    4 + 2 * board.plan.processors.len() + 18 * record_count(board) as usize
+    image_length(board.plan.processors.len(), record_count(board) as usize)
 }
 
 fn record_count<J, P>(board: &Board<J, P>) -> u16

@@ -13,8 +13,7 @@ impl Writer<'_> {
     // Writes bytes, and moves on.
     pub(crate) fn put(&mut self, bytes: &[u8])
         requires { self.old.at + length bytes.now ≤ length self.old.buffer.now }
-        ensures same_reference { self.new.buffer.ghost_name ≡ self.old.buffer.ghost_name }
-        ensures wrote { Wrote self.old self.new bytes.now }
+        ensures { Wrote self.old self.new bytes.now }
     {
         let end = self.at + bytes.len();
         self.buffer[self.at..end].copy_from_slice(bytes);
@@ -24,8 +23,7 @@ impl Writer<'_> {
     // For each processor the number of its first record.
     pub(crate) fn put_heads<J, P>(&mut self, board: &Board<J, P>)
         requires { self.old.at + 2 * vec_len board.now.plan.processors ≤ length self.old.buffer.now }
-        ensures same_reference { self.new.buffer.ghost_name ≡ self.old.buffer.ghost_name }
-        ensures wrote { Wrote self.old self.new (heads_bytes 1 (plan board.now)) }
+        ensures { Wrote self.old self.new (heads_bytes 1 (plan board.now)) }
     {
         let mut number = 1;
         for p in board.plan.processors.as_slice() {
@@ -38,8 +36,7 @@ impl Writer<'_> {
     // The records of all processors' rows, numbered from 1 on.
     pub(crate) fn put_records<J, P>(&mut self, board: &Board<J, P>)
         requires { self.old.at + 18 * row_count (plan board.now) ≤ length self.old.buffer.now }
-        ensures same_reference { self.new.buffer.ghost_name ≡ self.old.buffer.ghost_name }
-        ensures wrote { Wrote self.old self.new (records_bytes 1 (plan board.now)) }
+        ensures { Wrote self.old self.new (records_bytes 1 (plan board.now)) }
     {
         let mut number = 1;
         for p in board.plan.processors.as_slice() {
@@ -53,8 +50,7 @@ impl Writer<'_> {
     fn put_chain(&mut self, from: u16, rows: &[Row])
         requires room { self.old.at + 18 * length rows.now ≤ length self.old.buffer.now }
         requires few { (1 ≤ from) × (from + length rows.now ≤ 65535) }
-        ensures same_reference { self.new.buffer.ghost_name ≡ self.old.buffer.ghost_name }
-        ensures wrote { Wrote self.old self.new (chain_bytes from rows.now) }
+        ensures { Wrote self.old self.new (chain_bytes from rows.now) }
     {
         for (i, row) in rows.iter().enumerate() {
             let number = from + i as u16;

@@ -12,15 +12,15 @@ use Rattle.store.proofs.save.put_image.Goals as goal
 pub put_heads-requires : goal.put_heads-requires
 put_heads-requires g c =
     let b = c.args.board.now in
-    let head = c.put.ensures.wrote in
+    let head = c.put.ensures in
     let long = ap length head.buffer ∙ length_overwritten c.args.buffer.now 0 c.header.result (omega (arith, c.requires, length_image (plan b))) in
     omega (arith, c.requires, length_image (plan b), length-map (vec_items b.plan.processors) rows_of, long, head.at)
 
 pub put_records-requires : goal.put_records-requires
 put_records-requires g c =
     let b = c.args.board.now in
-    let head = c.put.ensures.wrote in
-    let heads = c.put_heads.ensures.wrote in
+    let head = c.put.ensures in
+    let heads = c.put_heads.ensures in
     let m = length-map (vec_items b.plan.processors) rows_of in
     let long = ap length head.buffer ∙ length_overwritten c.args.buffer.now 0 c.header.result (omega (arith, c.requires, length_image (plan b))) in
     let longer =
@@ -32,10 +32,10 @@ put_records-requires g c =
 pub returns : goal.returns
 returns g c =
     let b = c.args.board.now in
-    let head = c.put.ensures.wrote in
+    let head = c.put.ensures in
     let long = ap length head.buffer ∙ length_overwritten c.args.buffer.now 0 c.header.result (omega (arith, c.requires, length_image (plan b))) in
     let e : c.put_records.new.self.buffer.now ≡ overwritten c.args.buffer.now 0 (image (plan b)) =
     image_wrote (plan b) _ c.put.new.self c.put_heads.new.self c.put_records.new.self c.header.result c.len.result c.record_count.result c.requires refl
-    c.header.ensures (omega (arith, length-map (vec_items b.plan.processors) rows_of)) c.record_count.ensures head c.put_heads.ensures.wrote c.put_records.ensures.wrote
+    c.header.ensures (omega (arith, length-map (vec_items b.plan.processors) rows_of)) c.record_count.ensures head c.put_heads.ensures c.put_records.ensures
     (omega (arith, long, head.at, c.requires, length_image (plan b))) in
     search rules

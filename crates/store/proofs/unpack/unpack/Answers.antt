@@ -1,26 +1,13 @@
 use Rattle.std.proofs.Common.{map, length, sym, ap, ◌∙◌, subst}
 use Rattle.std.specs.List.{AllByRecursion}
-use Rattle.std.proofs.lemmas.Result.{err_from_is_err_and}
 use Rattle.processor.specs.Few.{held}
 use Rattle.store.specs.InPlace.{all_held}
 use Rattle.store.specs.Chains.{head_at}
 use Rattle.store.specs.Record.{next_at}
 use Rattle.store.specs.Records.{Numbered, picked}
 use Rattle.store.proofs.Reaches.{chains_numbered}
-use Rattle.store.proofs.Unpacks.{entries_refused, entries_unread, entries_read}
+use Rattle.store.proofs.Unpacks.{entries_read}
 use Rattle.store.proofs.unpack.unpack.Goals as goal
-
-pub returns-in_err-chains : goal.returns-in_err-chains
-returns-in_err-chains c =
-    let p = err_from_is_err_and c.from_residual-in_err-chains.result c.from_residual-in_err-chains.ensures.1 in
-    rw (p.1, p.2) (entries_refused c.args.processors c.args.bytes.now c.in_ok-image.image c.in_ok-image.ensures _ c.in_err-chains.ensures)
-
-pub returns-in_err-rows : goal.returns-in_err-rows
-returns-in_err-rows c =
-    let p = err_from_is_err_and c.from_residual-in_err-rows.result c.from_residual-in_err-rows.ensures.1 in
-    rw (p.1, p.2)
-    (entries_unread c.args.processors c.args.bytes.now c.in_ok-image.image c.in_ok-image.ensures (all_held c.in_ok-chains.chains)
-    c.in_ok-chains.ensures.0 _ c.in_err-rows.ensures)
 
 pub pick-requires : goal.pick-requires
 pick-requires c =
@@ -32,7 +19,7 @@ pick-requires c =
 pub returns : goal.returns
 returns c = (
   entries_read c.args.processors c.args.bytes.now c.in_ok-image.image c.in_ok-image.ensures (all_held c.in_ok-chains.chains)
-      c.in_ok-chains.ensures.0 (held c.in_ok-rows.rows) (all_held c.pick.result) c.in_ok-rows.ensures.0 c.in_ok-rows.ensures.2
+      (held c.in_ok-rows.rows) (all_held c.pick.result) c.in_ok-chains.ensures.0 c.in_ok-rows.ensures.0 c.in_ok-rows.ensures.2
       (λ d. c.pick.ensures.along d ∙ ap (λ r. map (picked r d) (all_held c.in_ok-chains.chains)) c.as_slice.ensures),
   c.pick.ensures.count ∙ (c.in_ok-chains.ensures.1 ∙ c.in_ok-image.ensures.2),
 )

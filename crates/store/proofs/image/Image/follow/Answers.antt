@@ -3,7 +3,7 @@ use Rattle.std.proofs.lemmas.Result.{err_from_is_err_and}
 use Rattle.std.proofs.lemmas.Bool.{ltb-true, ltb-false}
 use Rattle.processor.specs.Few.{held}
 use Rattle.store.specs.Record.{next_at}
-use Rattle.store.proofs.Walks.{walk_full, walk_done, walk_barred, walk_again, refused, marked, within}
+use Rattle.store.proofs.Walks.{walk_full, walk_done, walk_barred, walk_again, refused}
 use Rattle.store.proofs.image.Image.follow.Goals as goal
 
 pub returns-in_err-mark : goal.returns-in_err-mark
@@ -25,12 +25,6 @@ returns-then-not-push c =
           (held c.loop-number.chain) c.loop-number.reached (omega arith) c.loop-number-test.true,
       c.at.ensures,
     )
-
-pub next-number-requires : goal.next-number-requires
-next-number-requires c = (
-  omega arith,
-  within c.args.self.now.records c.loop-number.number c.loop-number.reached (marked _ _ _ c.mark.result c.mark.ensures.value c.in_ok-mark.was),
-)
 
 pub loop-number-preserved : goal.loop-number-preserved
 loop-number-preserved c =

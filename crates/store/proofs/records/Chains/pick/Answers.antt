@@ -1,17 +1,10 @@
-use Rattle.std.proofs.Common.{map, length, sym, ap, ◌∙◌, subst, arith}
-use Rattle.std.specs.List.{AllByRecursion}
+use Rattle.std.proofs.Common.{map, ap, ◌∙◌, arith}
 use Rattle.std.proofs.lemmas.List.{take_all}
 use Rattle.processor.specs.Few.{held}
 use Rattle.store.specs.InPlace.{all_held}
-use Rattle.store.specs.Records.{Numbered, picked}
-use Rattle.store.proofs.ByNumber.{numbered_chain, picks_more}
+use Rattle.store.specs.Records.{picked}
+use Rattle.store.proofs.ByNumber.{picks_more}
 use Rattle.store.proofs.records.Chains.pick.Goals as goal
-
-pub pick-requires : goal.pick-requires
-pick-requires c =
-    numbered_chain (length c.args.rows.now) c.as_slice-chain-items.result.now c.loop-chain.chain-index c.chain-item.result c.as_slice.result.now
-    (omega arith) c.chain-item.is c.as_slice.ensures
-    (subst (λ l. AllByRecursion (Numbered (length c.args.rows.now)) (map held l)) (sym c.as_slice-chain-items.ensures.items) c.requires)
 
 pub loop-chain-preserved : goal.loop-chain-preserved
 loop-chain-preserved c = (
@@ -21,11 +14,8 @@ loop-chain-preserved c = (
       (λ d. c.pick.ensures d ∙ ap (picked c.args.rows.now d) c.as_slice.ensures) c.push.ensures.after c.loop-chain.invariant.1,
 )
 
-pub returns : goal.returns
-returns c =
-    record {
-      along = λ d.
-          c.loop-chain.invariant.1 d
-          ∙ ap (λ l. map (picked c.args.rows.now d) (map held l)) (take_all c.loop-chain.chain-index c.as_slice-chain-items.result.now (omega arith) ∙ c.as_slice-chain-items.ensures.items);
-      count = omega arith;
-    }
+pub returns-clause-along : goal.returns-clause-along
+returns-clause-along c =
+    λ d.
+    c.loop-chain.invariant.1 d
+    ∙ ap (λ l. map (picked c.args.rows.now d) (map held l)) (take_all c.loop-chain.chain-index c.as_slice-chain-items.result.now (omega arith) ∙ c.as_slice-chain-items.ensures.items)

@@ -5,7 +5,6 @@ use Rattle.store.proofs.writer.Writer.put_chain.Given as goal
 
 abbrev pub invariant-loop-i : goal.invariant-loop-i
 invariant-loop-i l = record {
-  same : l.self.buffer.ghost_name ≡ l.initial.self.buffer.ghost_name;
   long : length l.self.buffer.now ≡ length l.initial.self.buffer.now;
   at : l.self.at ≡ l.initial.self.at + 18 * l.i;
   left : Left l.initial.self l.self (chain_bytes (l.from + l.i) (drop l.i l.rows)) (chain_bytes l.from l.rows);

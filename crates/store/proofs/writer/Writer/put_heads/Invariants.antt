@@ -6,7 +6,6 @@ use Rattle.store.proofs.writer.Writer.put_heads.Given as goal
 
 abbrev pub invariant-loop-p : goal.invariant-loop-p
 invariant-loop-p g l = record {
-  same : l.self.buffer.ghost_name ≡ l.initial.self.buffer.ghost_name;
   long : length l.self.buffer.now ≡ length l.initial.self.buffer.now;
   at : l.self.at ≡ l.initial.self.at + 2 * l.p-index;
   few : l.number ≤ 1 + 32 * l.p-index;

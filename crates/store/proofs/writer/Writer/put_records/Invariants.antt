@@ -1,4 +1,4 @@
-use Rattle.std.proofs.Common.{◌≡◌, ◌+◌, ◌*◌, ◌≤◌, map, length, drop}
+use Rattle.std.proofs.Common.{◌+◌, ◌*◌, ◌≤◌, map, length, drop}
 use Rattle.processor.specs.Rows.{rows_of}
 use Rattle.store.specs.Image.{records_bytes, row_count}
 use Rattle.store.proofs.Buffers.{Left}
@@ -6,7 +6,6 @@ use Rattle.store.proofs.writer.Writer.put_records.Given as goal
 
 abbrev pub invariant-loop-p : goal.invariant-loop-p
 invariant-loop-p g l = record {
-  same : l.self.buffer.ghost_name ≡ l.initial.self.buffer.ghost_name;
   room : l.self.at + 18 * row_count (map rows_of (drop l.p-index l.p-items)) ≤ length l.self.buffer.now;
   some : 1 ≤ l.number;
   few : l.number ≤ 1 + 32 * l.p-index;

@@ -3,7 +3,7 @@ use Rattle.std.proofs.lemmas.List.{length-map}
 use Rattle.processor.specs.Rows.{rows_of}
 use Rattle.board.specs.Plan.{plan}
 use Rattle.store.proofs.Saves.{length_image}
-use Rattle.store.proofs.save.image_length.Goals as goal
+use Rattle.store.proofs.save.length_of.Goals as goal
 
 pub returns : goal.returns
 returns g c =
