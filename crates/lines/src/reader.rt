@@ -37,6 +37,7 @@ impl<I: Read> Reader<I> {
 
     fn read_line<const N: usize>(&mut self) -> io::Result<Line<N>> {
         let mut line = Line::new();
+        // An input of unknown bytes has no measure, so the loop is counted.
         for _ in 0..u64::MAX {
             self.fill()?;
             let Some(byte) = self.chunk.next() else {

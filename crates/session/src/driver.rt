@@ -1,5 +1,5 @@
 // A session over an input: the first line sets a board up, which is kept until the session ends. What is read and printed no contract says; what
-// is answered is that of `first_line` and `answer`.
+// is answered is that of `first_line` and `answer`. An input of unknown bytes has no measure, so the loops over its lines are counted.
 use crate::answer::answer;
 use crate::first::{First, Start};
 use crate::reader::Reader;
