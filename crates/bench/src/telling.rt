@@ -4,7 +4,7 @@ ghost use Rattle.processor.specs.Rows.{rows_of};
 ghost use Rattle.board.specs.Plan.{plan};
 ghost use Rattle.store.specs.Image.{image};
 ghost use Rattle.bench.specs.Replies.{image_line};
-ghost use Rattle.bench.specs.Rows.{last_line, gathered_line, left_text, rows_text};
+ghost use Rattle.bench.specs.Rows.{gathered_line, left_text, rows_text};
 ghost use Rattle.bench.specs.Outcomes.{answer_text};
 
 use crate::reply;
