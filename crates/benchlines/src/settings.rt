@@ -71,7 +71,8 @@ impl RuleSetting {
     }
 }
 
-// Whether a word that stands is unknown at its place; a missing one is a matter of the field count.
+// Whether a word that stands is unknown at its place; a missing one is a matter of the field count. As on the console but for `listed`, which a
+// shared function would have to be told.
 fn has_unknown_word(line: &[u8]) -> bool
     ensures { result ≡ unknown_word (fields line.now) }
 {

@@ -1,4 +1,4 @@
-// What a withdrawal gathered: for each processor of the board the key gathered there, or 0.
+// What a withdrawal gathered: for each processor of the board the key gathered there, or 0. No key is 0, and the answer has this form wherever it is told.
 use processor::few::Few;
 
 #[derive(Drop)]

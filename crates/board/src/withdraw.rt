@@ -68,9 +68,9 @@ impl Plan {
         ensures count { vec_len self.new.processors ≡ vec_len self.old.processors }
     {
         let row = self.processors[place].candidate()?;
-        let (budget, deadline) = self.parts(row.key);
         // On a plan that this board's calls have made, the whole form keeps the limits.
-        let timing = Timing::new(budget, deadline, row.timing.period).ok()?;
+        let timing =
+            Timing::new(self.budget(row.key), self.due(row.key), row.timing.period).ok()?;
         if !self.processors[place].fits_instead(judge, row.key, timing) {
             return None;
         }
@@ -93,19 +93,18 @@ impl Plan {
         )
     }
 
-    // The budgets of a reservation's rows, and its deadline.
-    fn parts(&self, key: u16) -> (u32, u32)
-        ensures budget { result.0 ≡ sum_over (λ row. row.timing.budget) key (lists self.now) }
-        ensures due { result.1 ≡ sum_over due key (lists self.now) }
+    // The budgets of a reservation's rows.
+    fn budget(&self, key: u16) -> u32
+        ensures { result ≡ sum_over (λ row. row.timing.budget) key (lists self.now) }
     {
-        let mut budget = 0;
-        let mut deadline = 0;
-        for processor in self.processors.as_slice() {
-            let parts = processor.parts(key);
-            budget += parts.0;
-            deadline += parts.1;
-        }
-        (budget, deadline)
+        self.processors.iter().map(|processor| processor.budget(key)).sum()
+    }
+
+    // What a reservation's rows add up to as its deadline.
+    fn due(&self, key: u16) -> u32
+        ensures { result ≡ sum_over due key (lists self.now) }
+    {
+        self.processors.iter().map(|processor| processor.due(key)).sum()
     }
 
     // Takes a reservation's rows away on every processor.

@@ -4,7 +4,7 @@ ghost use Rattle.exports.specs.Refusal.{refusal_number};
 
 use crate::refusal::Refusal;
 
-// The number of a refusal and the value 0, or 0 and the value.
+// The number of a refusal and the value 0, or 0 and the value: C has no enum with values.
 #[repr(C)]
 #[derive(Clone, Copy)]
 pub struct Reply {

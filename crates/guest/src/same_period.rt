@@ -2,7 +2,7 @@
 // budgets together fill at most that period.
 ghost use Rattle.std.specs.Prelude.{◌≡◌, ◌≤◌, length};
 ghost use Rattle.model.specs.Scale.{scale};
-ghost use Rattle.guest.specs.Together.{budgets, in_step, all_in_step, share_period, together, guest_yes, guest_allowance};
+ghost use Rattle.guest.specs.Together.{budgets, in_step, all_in_step, together, guest_yes, guest_allowance};
 ghost use Rattle.std.proofs.Common.{arith, rules};
 ghost use Rattle.guest.specs.Lawful.{guest_sound, guest_fewer, guest_taken};
 
@@ -48,23 +48,15 @@ impl SizingJudge for SamePeriod {
     }
 }
 
-// Whether all share the first one's period.
+// Whether all share the first one's period, and it is long enough.
 fn together(list: &[Timing]) -> bool
     requires { length list.now ≤ 32 }
     ensures { result ≡ together list.now }
 {
     match list {
         [] => true,
-        [first, ..] => share_period(list, first.period),
+        [first, ..] => all_in_step(list, first.period) && budgets(list) <= first.period,
     }
-}
-
-// Whether they all share this period, and it is long enough.
-fn share_period(list: &[Timing], period: u32) -> bool
-    requires { length list.now ≤ 32 }
-    ensures { result ≡ share_period period list.now }
-{
-    all_in_step(list, period) && budgets(list) <= period
 }
 
 fn all_in_step(list: &[Timing], period: u32) -> bool

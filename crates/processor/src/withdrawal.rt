@@ -41,15 +41,6 @@ impl Processor {
         heads.reduce(|held, row| if heavier(&row, &held) { row } else { held })
     }
 
-    // The budgets of a reservation's rows here, and what these rows add to its deadline.
-    pub fn parts(&self, key: u16) -> (u32, u32)
-        ensures budget { result.0 ≡ sum_on (λ row. row.timing.budget) key (rows_of self.now) }
-        ensures due { result.1 ≡ sum_on due key (rows_of self.now) }
-        ensures bound { (result.0 ≤ 3200000) × (result.1 ≤ 3200000) }
-    {
-        (self.budget(key), self.due(key))
-    }
-
     // The budgets of a reservation's rows here.
     pub fn budget(&self, key: u16) -> u32
         ensures value { result ≡ sum_on (λ row. row.timing.budget) key (rows_of self.now) }

@@ -63,7 +63,7 @@ impl Plan {
     {
         !self
             .pieces_of(key)
-            .is_ok_and(|found| is_reservation(found.as_slice()))
+            .is_ok_and(|found| is_reservation(&found))
     }
 
     // The rows of a key, if no two of them are on one processor.
@@ -94,10 +94,10 @@ fn piece_of(rows: &[Row], key: u16) -> Result<Option<Row>, Twice>
 }
 
 // One whole, or a head and its tails.
-fn is_reservation(rows: &[Row]) -> bool
-    requires { length rows.now ≤ 32 }
-    ensures { result ≡ one_reservation rows.now }
+fn is_reservation(found: &Few<Row, 32>) -> bool
+    ensures { result ≡ one_reservation (held found.now) }
 {
+    let rows = found.as_slice();
     match rows {
         [] => false,
         [row] => row.kind == Kind::Whole,

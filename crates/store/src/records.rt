@@ -12,7 +12,7 @@ use crate::fault::BufferFault;
 use crate::image::Image;
 use crate::lists::{Chains, Plan};
 use model::row::{Kind, Row as BoardRow};
-use model::timing::Timing;
+use processor::asking::UNUSED;
 use processor::few::Few;
 
 impl Image<'_> {
@@ -40,11 +40,7 @@ pub(crate) fn filler() -> BoardRow {
     BoardRow {
         key: 0,
         kind: Kind::Whole,
-        timing: Timing {
-            budget: 1,
-            deadline: 1,
-            period: 1,
-        },
+        timing: UNUSED,
     }
 }
 

@@ -25,7 +25,7 @@ impl Sizes {
         })
     }
 
-    // An empty board of these processors. Only memory can be wanting.
+    // An empty board of these processors. Only memory can be wanting: a count that was checked is never refused.
     pub fn board<J: Drop, P: Drop>(
         &self,
         heap: Global,

@@ -4,4 +4,4 @@ use Rattle.store.proofs.refill.refill.Given as goal
 
 abbrev pub invariant-loop-row : goal.invariant-loop-row
 invariant-loop-row l =
-    (vec_len l.processor.rows ≡ l.row-index) × (rows_of l.processor ≡ take l.row-index l.rows)
+    (vec_len l.processor.rows ≡ l.row-index) × (rows_of l.processor ≡ take l.row-index l.row-items)

@@ -18,14 +18,14 @@ pub returns-then-not-fits_instead : goal.returns-then-not-fits_instead
 returns-then-not-fits_instead g c =
     let before = lists c.args.self.now in let p = c.args.place in let accepts = g.J.Judge.accepts c.args.judge.now in
     let items = vec_items c.args.self.now.processors in let row = c.in_ok-row.row in let x = c.in_ok-timing.timing in
-    let parts = c.parts-budget.result in
+    let b = c.budget.result in let d = c.due.result in
     let at : rows_of c.index.result.now ≡ get_or before p [] = read_map rows_of items p c.index.result.now [] (omega arith) c.index.ensures in
     let at-2 : rows_of c.index-2.result.now ≡ get_or before p [] = read_map rows_of items p c.index-2.result.now [] (omega arith) c.index-2.ensures in
     let here : candidate (rows_of c.index.result.now) ≡ Some row = search rules in
     let found : candidate (get_or before p []) ≡ Some row = ap candidate (sym at) ∙ here in
     let made : c.new.result ≡ Ok x = search rules in
-    let fit : whole before row ≡ Some x = whole_is before row parts.0 parts.1 (Some x) c.parts-budget.ensures.budget c.parts-budget.ensures.due
-    (timed_ok parts.0 parts.1 row.timing.period x (subst (Timed parts.0 parts.1 row.timing.period) made c.new.ensures)) in
+    let fit : whole before row ≡ Some x = whole_is before row b d (Some x) c.budget.ensures c.due.ensures
+    (timed_ok b d row.timing.period x (subst (Timed b d row.timing.period) made c.new.ensures)) in
     let asked : accepts (timings (others row.key (get_or before p [])) ++ (x ∷ [])) ≡ false
     = ap (λ rows. accepts (timings (others row.key rows) ++ (x ∷ []))) (sym at-2) ∙ sym c.if-not-fits_instead.ensures in
     let e : gather accepts p before ≡ (0, before) = gather_asked accepts p before row found x false fit asked in
@@ -35,15 +35,15 @@ pub returns : goal.returns
 returns g c =
     let before = lists c.args.self.now in let p = c.args.place in let accepts = g.J.Judge.accepts c.args.judge.now in
     let items = vec_items c.args.self.now.processors in let row = c.in_ok-row.row in let x = c.in_ok-timing.timing in
-    let parts = c.parts-budget.result in
+    let b = c.budget.result in let d = c.due.result in
     let left = c.remove.new.self in let q = c.index_mut.result.now in
     let at : rows_of c.index.result.now ≡ get_or before p [] = read_map rows_of items p c.index.result.now [] (omega arith) c.index.ensures in
     let at-2 : rows_of c.index-2.result.now ≡ get_or before p [] = read_map rows_of items p c.index-2.result.now [] (omega arith) c.index-2.ensures in
     let here : candidate (rows_of c.index.result.now) ≡ Some row = search rules in
     let found : candidate (get_or before p []) ≡ Some row = ap candidate (sym at) ∙ here in
     let made : c.new.result ≡ Ok x = search rules in
-    let fit : whole before row ≡ Some x = whole_is before row parts.0 parts.1 (Some x) c.parts-budget.ensures.budget c.parts-budget.ensures.due
-    (timed_ok parts.0 parts.1 row.timing.period x (subst (Timed parts.0 parts.1 row.timing.period) made c.new.ensures)) in
+    let fit : whole before row ≡ Some x = whole_is before row b d (Some x) c.budget.ensures c.due.ensures
+    (timed_ok b d row.timing.period x (subst (Timed b d row.timing.period) made c.new.ensures)) in
     let asked : accepts (timings (others row.key (get_or before p [])) ++ (x ∷ [])) ≡ true
     = ap (λ rows. accepts (timings (others row.key rows) ++ (x ∷ []))) (sym at-2) ∙ sym c.if-not-fits_instead.ensures in
     let e : gather accepts p before ≡ (row.key, regrouped p row.key x before) = gather_asked accepts p before row found x true fit asked in

@@ -1,0 +1,18 @@
+use Rattle.std.proofs.Common.{rules, arith, ◌≡◌, ◌<◌, ◌^◌, ap, ◌∙◌, map, sum_by}
+use Rattle.model.specs.declared.row.Row.{Row}
+use Rattle.processor.specs.Rows.{rows_of}
+use Rattle.processor.specs.Gathering.{sum_on}
+use Rattle.board.specs.Withdraw.{sum_over}
+use Rattle.board.proofs.Walks.{budget_most, sums_most, sums_over}
+use Rattle.board.proofs.plan.Plan.budget.Goals as goal
+
+pub sum-requires-clause-fits : goal.sum-requires-clause-fits
+sum-requires-clause-fits c =
+    let bounded : sum_by (λ p. sum_on (λ row. row.timing.budget) c.args.key (rows_of p)) c.deref.result.now < 2 ^ 32
+    = omega (arith, sums_most (λ row. row.timing.budget) budget_most c.args.key c.deref.result.now) in search rules
+
+pub returns : goal.returns
+returns c =
+    let chained : c.sum.result ≡ sum_by (λ p. sum_on (λ row. row.timing.budget) c.args.key (rows_of p)) c.deref.result.now = search rules in
+    chained ∙ sums_over (λ row. row.timing.budget) budget_most c.args.key c.deref.result.now
+    ∙ ap (λ l. sum_over (λ row. row.timing.budget) c.args.key (map rows_of l)) c.deref.ensures.value
