@@ -2,7 +2,7 @@
 // is answered is that of `first_line` and `answer`. An input of unknown bytes has no measure, so the loops over its lines are counted.
 use crate::answer::answer;
 use crate::first::{First, Start};
-use crate::reader::Reader;
+use crate::reader::{Next, Reader};
 use lines::choice::{NamedJudge, Work};
 use lines::reply::{REPLY_ROOM, Reply};
 use model::judge::SizingJudge;
@@ -44,7 +44,7 @@ pub enum Ended {
 // Waits for the first line, and keeps the board that it asks for.
 pub fn run<I: Read>(rt: &HostRuntime, reader: &mut Reader<I>) -> io::Result<Ended> {
     for _ in 0..u64::MAX {
-        let Some(line) = reader.next_line()? else {
+        let Next::Line(line) = reader.next_line()? else {
             break;
         };
         let first = First::read(line.text());
@@ -76,9 +76,9 @@ pub fn run<I: Read>(rt: &HostRuntime, reader: &mut Reader<I>) -> io::Result<Ende
 // What follows a refused first line, up to the session's end.
 fn pass_over<I: Read>(reader: &mut Reader<I>) -> io::Result<()> {
     for _ in 0..u64::MAX {
-        if reader.next_line()?.is_none() {
+        let Next::Line(_) = reader.next_line()? else {
             break;
-        }
+        };
     }
     Ok(())
 }
@@ -108,7 +108,7 @@ impl<I: Read> Work for Session<'_, I> {
         rt.write_all(said.text())?;
         let mut reply = [0u8; REPLY_ROOM];
         for _ in 0..u64::MAX {
-            let Some(line) = reader.next_line()? else {
+            let Next::Line(line) = reader.next_line()? else {
                 break;
             };
             let Ok(end) = answer(&mut board, line.text(), &mut reply) else {

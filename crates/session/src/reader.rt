@@ -1,7 +1,6 @@
 // The lines of sessions: of one that goes on to the input's end, or of many, each ended by the line `----`.
 ghost use Rattle.std.specs.Prelude.{◌≡◌, []};
 ghost use Rattle.lines.specs.Reading.{left, Told};
-ghost use Rattle.session.specs.Reading.{NextLine};
 
 use lines::fields::same;
 use lines::line::Line;
@@ -16,7 +15,19 @@ pub struct Reader<I> {
     marked: bool,
 }
 
+// What comes next in a session.
+#[derive(Clone, Copy)]
+pub enum Next {
+    Line(Line<81>),
+    // The line `----`.
+    Mark,
+    // The end of the input.
+    End,
+}
+
 impl<I: Read> Reader<I> {
+    ghost use Rattle.session.specs.Reading.{NextLine};
+
     pub fn new(input: I, marked: bool) -> Reader<I>
         ensures lines { left result.lines ≡ [] }
         ensures marked { result.marked ≡ marked }
@@ -27,14 +38,18 @@ impl<I: Read> Reader<I> {
         }
     }
 
-    // Reads the next line of the session, if there is one. The last need not end with a newline.
-    pub fn next_line(&mut self) -> io::Result<Option<Line<81>>>
+    // Reads the next line of the session, or what ends it. The last line need not end with a newline.
+    pub fn next_line(&mut self) -> io::Result<Next>
         ensures line { NextLine self.old.marked (left self.new.lines) result }
         ensures marked { self.new.marked ≡ self.old.marked }
     {
-        let line = self.lines.next_line()?;
-        let marked = self.marked;
-        Ok(line.filter(|line| !marked || !same(line.text(), b"----")))
+        let Some(line) = self.lines.next_line()? else {
+            return Ok(Next::End);
+        };
+        if self.marked && same(line.text(), b"----") {
+            return Ok(Next::Mark);
+        }
+        Ok(Next::Line(line))
     }
 
     // Whether the input has another byte.
