@@ -55,6 +55,7 @@ fn load_digits<J: Judge, P>(board: &mut Board<J, P>, digits: &[u8]) -> Result<An
     ensures judge { board.new.judge ≡ board.old.judge }
     ensures rule { board.new.rule ≡ board.old.rule }
 {
+    // In place: only memory for the text of a reply may be wanting.
     let mut bytes = [0u8; 6000];
     let length = decode_any(digits, &mut bytes).ok_or(LineFault::Number)?;
     load(board, &bytes[0..length])?;

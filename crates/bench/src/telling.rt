@@ -91,7 +91,7 @@ fn gathered_on(heap: Global, number: u8, key: u16, rows: &[Row]) -> Result<Strin
     }
 }
 
-// The image of the plan behind a word. That of any plan has room in the buffer.
+// The image of the plan behind a word. That of any plan has room in the buffer, which is in place as `save` wants one lent.
 fn stored<J, P>(heap: Global, word: &str, board: &Board<J, P>) -> Result<String, AllocError>
     ensures { IfOk result (λ s. string_bytes s ≡ image_line word.now (image (plan board.now))) }
 {

@@ -7,6 +7,7 @@ use crate::refusal::Refusal;
 use benchlines::numbers::read_numbers;
 use model::fault::{LineFault, RequestFault};
 use model::timing::Timing;
+use processor::asking::UNUSED;
 use processor::few::Few;
 
 // So many rows from a place on, or the refusal of the first field that is no number, or else of the first limit that a row breaks.
@@ -36,12 +37,7 @@ fn limited(rows: &[[u32; 3]]) -> Result<Few<Timing, 40>, RequestFault>
     requires { length rows.now ≤ 40 }
     ensures { kept result ≡ timings_by rows.now }
 {
-    // A list of a fixed size holds some timing at each place that is not in use.
-    let mut timings = Few::new(Timing {
-        budget: 1,
-        deadline: 1,
-        period: 1,
-    });
+    let mut timings = Few::new(UNUSED);
     for [budget, deadline, period] in rows {
         timings.push(Timing::new(*budget, *deadline, *period)?);
     }

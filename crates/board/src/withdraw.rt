@@ -69,8 +69,7 @@ impl Plan {
     {
         let row = self.processors[place].candidate()?;
         // On a plan that this board's calls have made, the whole form keeps the limits.
-        let timing =
-            Timing::new(self.budget(row.key), self.due(row.key), row.timing.period).ok()?;
+        let timing = Timing::new(self.budget(row.key), self.due(row.key), row.timing.period).ok()?;
         if !self.processors[place].fits_instead(judge, row.key, timing) {
             return None;
         }
@@ -97,14 +96,20 @@ impl Plan {
     fn budget(&self, key: u16) -> u32
         ensures { result ≡ sum_over (λ row. row.timing.budget) key (lists self.now) }
     {
-        self.processors.iter().map(|processor| processor.budget(key)).sum()
+        self.processors
+            .iter()
+            .map(|processor| processor.budget(key))
+            .sum()
     }
 
     // What a reservation's rows add up to as its deadline.
     fn due(&self, key: u16) -> u32
         ensures { result ≡ sum_over due key (lists self.now) }
     {
-        self.processors.iter().map(|processor| processor.due(key)).sum()
+        self.processors
+            .iter()
+            .map(|processor| processor.due(key))
+            .sum()
     }
 
     // Takes a reservation's rows away on every processor.

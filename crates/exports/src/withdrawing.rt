@@ -26,6 +26,7 @@ pub extern "C" fn wadispoon_withdraw(
     }
 }
 
+// As `admit_all`, but of another call, which promises something else.
 fn withdraw_all<J: Judge, P>(board: &mut Board<J, P>, keys: &[u32]) -> u64
     ensures { result ≡ count_over (withdrawing (J.accepts board.old.judge)) (plan board.old) keys.now }
 {

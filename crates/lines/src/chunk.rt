@@ -1,4 +1,4 @@
-// Bytes that were read together, and how far they are used.
+// Bytes that were read together, in memory that is fixed, and how far they are used.
 ghost use Rattle.std.specs.Prelude.{◌≤◌};
 
 #[derive(Clone, Copy)]

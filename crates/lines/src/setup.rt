@@ -92,6 +92,7 @@ impl Setup {
 
 #[tactic(auto, using(crate::proofs::Words::reads_density, crate::proofs::Words::reads_demand, crate::proofs::Words::reads_either))]
 impl JudgeWord {
+    // An `Option`: the error of a `TryFrom` would say no more than none.
     pub fn read(word: &[u8]) -> Option<JudgeWord>
         ensures { result ≡ judge_word word.now }
     {
@@ -106,6 +107,7 @@ impl JudgeWord {
 
 #[tactic(auto, using(crate::proofs::Words::reads_fewest))]
 impl RuleWord {
+    // An `Option`, as for a judge's word.
     pub fn read(word: &[u8]) -> Option<RuleWord>
         ensures { result ≡ rule_word word.now }
     {

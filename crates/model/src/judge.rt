@@ -31,7 +31,7 @@ pub trait Judge {
 
 // A judge that also says how long a tail, whose budget is its deadline, may be added to a list.
 pub trait SizingJudge: Judge {
-    // The longest tail that is offered for a list, a period and a cap.
+    // The longest tail that is offered for a list, a period and a cap: three arguments, since a host's judge would take a struct of them apart.
     ghost allows: { Self → List Timing → ℕ → ℕ → ℕ };
 
     fn allowance(&self, list: &[Judged], period: u32, cap: u32) -> u32

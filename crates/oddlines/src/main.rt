@@ -1,4 +1,4 @@
-// Replays many sessions of lines that are mostly refused, parted by lines `----`, from standard input.
+// Replays many sessions of lines that are mostly refused, parted by lines `----`, from standard input. A program of its own: each has one input.
 #![tactic(auto)]
 
 use session::driver::replay;

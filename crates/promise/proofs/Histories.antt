@@ -1,5 +1,5 @@
 -- What is promised holds along every history. Assumes nothing.
-use Rattle.std.proofs.Common.{◌≡◌, ℕ, zero, suc, ◌-◌, ◌<◌, ◌≤◌, Bool, true, false, not, eqb, ltb, List, [], ◌∷◌, ◌++◌, length, get_or, replicate, ℤ, Some, None, Ok, Err, Option, Result, sym, refl, ap, ◌∙◌, subst, subst₂, inl, arith, ltb-false, ne_eqb}
+use Rattle.std.proofs.Common.{◌≡◌, ℕ, zero, suc, ◌-◌, ◌<◌, ◌≤◌, false, not, eqb, ltb, List, [], ◌∷◌, ◌++◌, length, get_or, replicate, Some, None, Ok, Err, Option, Result, sym, refl, ap, ◌∙◌, subst, subst₂, inl, arith, ltb-false, ne_eqb}
 use Rattle.std.proofs.lemmas.Bool.{or_parts}
 use Rattle.std.proofs.ByRecursion.{all_kept_by}
 use Rattle.board.specs.Setup.{unfit}
@@ -17,7 +17,7 @@ use Rattle.board.specs.declared.admission.Placed.{Placed}
 use Rattle.board.specs.Keys.{reservations}
 use Rattle.board.specs.Admission.{made_rows}
 use Rattle.board.specs.Split.{placed}
-use Rattle.board.specs.Admit.{admitted, after, told}
+use Rattle.board.specs.Admit.{told}
 use Rattle.board.specs.Withdraws.{Withdraws}
 use Rattle.board.specs.Withdraws as rules
 use Rattle.model.specs.Share.{densities}
@@ -36,7 +36,7 @@ use Rattle.promise.specs.Choosing.{rows_at, Takes, FirstTaker}
 use Rattle.promise.specs.Admits.{Admits, refused, whole, split, no_place, Splits, ended, headed, further, Applies}
 use Rattle.promise.specs.Kept.{Kept}
 use Rattle.promise.specs.History.{Derived, History, begins, goes_on, accepted_next, accepted_after}
-use Rattle.promise.specs.Promise.{meant, NoPlace, FirstInRank, Along, Promised, Shown}
+use Rattle.promise.specs.Promise.{NoPlace, FirstInRank, Along, Promised, Shown}
 use Rattle.promise.proofs.Rows.{length_adds}
 use Rattle.promise.proofs.Placing.{none_dense}
 use Rattle.promise.proofs.Admitting.{kept_admits}

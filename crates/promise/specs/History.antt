@@ -1,7 +1,5 @@
 -- Histories: calls, their answers, and the plans between them. Assumes nothing.
-use Rattle.std.specs.Prelude.{◌≡◌, List, [], ◌∷◌, Ok, Err, Result}
-use Rattle.model.specs.declared.fault.RequestFault.{RequestFault}
-use Rattle.board.specs.declared.admission.Placed.{Placed}
+use Rattle.std.specs.Prelude.{List, [], ◌∷◌, Ok, Err}
 use Rattle.runs.specs.Plan.{Reservation}
 use Rattle.board.specs.Admit.{told as told_rows}
 use Rattle.board.specs.Withdraw.{told as told_keys}

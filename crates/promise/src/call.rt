@@ -8,12 +8,8 @@ use store::fault::BufferFault;
 #[derive(Clone, Copy)]
 pub enum Call<'a> {
     Admit(Wanted),
-    Withdraw {
-        key: u32,
-    },
-    Load {
-        image: &'a [u8],
-    },
+    Withdraw { key: u32 },
+    Load { image: &'a [u8] },
 }
 
 // An answer is of the kind of its call.

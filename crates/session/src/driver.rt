@@ -106,6 +106,7 @@ impl<I: Read> Work for Session<'_, I> {
         } = self;
         let mut board = start.sizes.board(rt.alloc(), judge, rule)?;
         rt.write_all(said.text())?;
+        // As a host lends one.
         let mut reply = [0u8; REPLY_ROOM];
         for _ in 0..u64::MAX {
             let Next::Line(line) = reader.next_line()? else {

@@ -19,7 +19,7 @@ OnlyOne rows (Ok found) = rows ≡ as_list found
 OnlyOne rows (Err e) = nat_le (length rows) 1 ≡ false
 
 -- the rows of a key if they are on different processors
-abbrev pub Gathered : ℕ → List (List Row) → Result (Few Row 32) Twice → Type 0
+abbrev pub Gathered : ℕ → List (List Row) → Result (Few Row 8) Twice → Type 0
 Gathered key plan (Ok found) = (apart key plan ≡ true) × (held found ≡ pieces key plan)
 Gathered key plan (Err e) = apart key plan ≡ false
 

@@ -16,6 +16,7 @@ impl Image<'_> {
     pub(crate) fn chains(&self) -> Result<Chains, BufferFault>
         ensures { Chained self.now.processors (chains (head_at self.now.bytes.now) (next_at self.now.processors self.now.bytes.now) self.now.processors self.now.records) result }
     {
+        // In place: loading takes no memory.
         let mut reached = [false; 256];
         let mut chains = Chains::new(0);
         for p in 0..self.processors {

@@ -68,7 +68,7 @@ impl<'a> Image<'a> {
         }
     }
 
-    // Where a record begins.
+    // Where a record begins. A type for the numbers of records would be made anew at each step of a chain.
     fn start(&self, number: u16) -> usize
         requires { (1 ≤ number) × (number ≤ self.now.records) }
         ensures value { result ≡ start self.now.processors number }

@@ -40,7 +40,7 @@ pub(crate) fn record(next: u16, row: &Row) -> [u8; 18]
     ]
 }
 
-// The number of the first of so many records that are numbered from `number` on, or 0.
+// The number of the first of so many records that are numbered from `number` on, or 0, which ends a chain in an image.
 pub(crate) fn first_of(number: u16, count: usize) -> u16
     ensures { result ≡ first number count }
 {

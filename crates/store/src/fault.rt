@@ -31,7 +31,7 @@ pub enum BufferRule {
     Judge = 39,
 }
 
-// Which rule failed, and the chain, record, key or processor where it failed; 0 where no place is named.
+// Which rule failed, and the chain, record, key or processor where it failed; 0 where no place is named, as a refusal is told.
 #[derive(Clone, Copy, PartialEq, Eq, Debug)]
 pub struct BufferFault {
     pub rule: BufferRule,

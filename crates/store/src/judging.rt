@@ -28,11 +28,7 @@ impl Plan {
 }
 
 // Refuses the rows of one processor, counted from 1, if they get no.
-fn check_rows<J: Judge>(
-    judge: &J,
-    rows: &Few<Row, 32>,
-    processor: u16,
-) -> Result<(), BufferFault>
+fn check_rows<J: Judge>(judge: &J, rows: &Few<Row, 32>, processor: u16) -> Result<(), BufferFault>
     ensures { result ≡ (if J.Judge.accepts judge.now (timings (held rows.now)) then Ok tt else Err (fault BufferRule.Judge processor)) }
 {
     if !says_yes(judge, rows) {

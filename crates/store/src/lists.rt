@@ -1,4 +1,4 @@
-// A short list for each of at most eight processors.
+// A short list for each of at most eight processors, in place: loading takes no memory.
 ghost use Rattle.std.specs.Prelude.{◌≤◌};
 
 use model::row::Row;

@@ -20,7 +20,7 @@ pub(crate) fn board_of<J: Drop, P: Drop>(
     Board::new(heap, processors, judge, rule).map_err(|_| Fail::new("no board"))
 }
 
-// The number of the refusal, or 0.
+// The number of the refusal, or 0: tests compare plain numbers.
 pub(crate) fn refusal<T: Drop, F: Numbered + Drop>(answer: Result<T, F>) -> u8 {
     match answer {
         Ok(_) => 0,

@@ -10,7 +10,7 @@ use std::test::Fail;
 use store::load::load;
 use store::save::save;
 
-// The number of the refusal and its place, or zeros.
+// The number of the refusal and its place, or zeros, which tests compare.
 fn loaded<J: Judge, P>(board: &mut Board<J, P>, image: &[u8]) -> (u8, u16) {
     match load(board, image) {
         Ok(()) => (0, 0),

@@ -9,7 +9,7 @@ use placement::best::Best;
 use placement::listed::Listed;
 use std::alloc::Global;
 
-// The number of the refusal, or 0; 99 where memory is wanting.
+// The number of the refusal, or 0; 99 where memory is wanting: tests compare plain numbers.
 fn set_up(heap: Global, processors: u32) -> u8 {
     match Board::new(heap, processors, Density, Best) {
         Ok(_) => 0,

@@ -12,8 +12,7 @@ use model::wanted::Wanted;
 use processor::asking::MOST_ROWS;
 use promise::call::{Answer, Call};
 use promise::history::Outcome;
-use std::array;
-use std::io;
+use std::{array, io};
 
 // Every reservation here is released every 41 ticks at the soonest.
 const PERIOD: u32 = 41;
@@ -89,6 +88,7 @@ fn show_answer(rt: &HostRuntime, answer: &Answer) -> io::Result<()> {
     }
 }
 
+// Programs show what was made in their own words.
 fn show_admission(rt: &HostRuntime, r: &Result<Admission, RequestFault>) -> io::Result<()> {
     match r {
         Ok(admission) => {

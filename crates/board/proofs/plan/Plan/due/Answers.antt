@@ -1,5 +1,4 @@
 use Rattle.std.proofs.Common.{rules, arith, ◌≡◌, ◌<◌, ◌^◌, ap, ◌∙◌, map, sum_by}
-use Rattle.model.specs.declared.row.Row.{Row}
 use Rattle.processor.specs.Rows.{rows_of}
 use Rattle.model.specs.Row.{due}
 use Rattle.processor.specs.Gathering.{sum_on}
