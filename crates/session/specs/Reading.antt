@@ -11,6 +11,6 @@ is_mark marked line = marked && bytes_eq line (codes "----")
 -- a line that is no mark, or a mark where sessions are marked, or the end of the input
 abbrev pub NextLine : {E : Type 0} → Bool → List ℕ → Result Next E → Type 0
 NextLine marked left (Ok (Next.Line line)) = is_mark marked (held line) ≡ false
-NextLine marked left (Ok Next.Mark) = marked ≡ true
+NextLine marked left (Ok (Next.Mark line)) = is_mark marked (held line) ≡ true
 NextLine marked left (Ok Next.End) = left ≡ []
 NextLine marked left (Err e) = Unit {0}

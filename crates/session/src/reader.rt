@@ -19,8 +19,8 @@ pub struct Reader<I> {
 #[derive(Clone, Copy)]
 pub enum Next {
     Line(Line<81>),
-    // The line `----`.
-    Mark,
+    // The line `----`, as it was read.
+    Mark(Line<81>),
     // The end of the input.
     End,
 }
@@ -47,7 +47,7 @@ impl<I: Read> Reader<I> {
             return Ok(Next::End);
         };
         if self.marked && same(line.text(), b"----") {
-            return Ok(Next::Mark);
+            return Ok(Next::Mark(line));
         }
         Ok(Next::Line(line))
     }

@@ -95,7 +95,7 @@ fn piece_of(rows: &[Row], key: u16) -> Result<Option<Row>, Twice>
 }
 
 // One whole, or a head and its tails.
-fn is_reservation(found: &Few<Row, 32>) -> bool
+fn is_reservation(found: &Few<Row, 8>) -> bool
     ensures { result ≡ one_reservation (held found.now) }
 {
     let rows = found.as_slice();
