@@ -10,7 +10,7 @@ use crate::asking::{allow, judge, look};
 use crate::refusal::Refusal;
 use crate::telling::Answer;
 use benchlines::hex::decode_any;
-use benchlines::numbers::number_at;
+use benchlines::numbers::number_read;
 use benchlines::task::Task;
 use board::board::Board;
 use lines::command::AdmitFields;
@@ -36,7 +36,7 @@ pub(crate) fn act<J: SizingJudge, P: Placement>(
             Ok(Answer::Made(board.admit(wanted)?))
         }
         Task::Leave => {
-            let key = number_at(line, 1)?;
+            let key = number_read(line, 1)?;
             let gathered = board.withdraw(key)?;
             Ok(Answer::Left { key, gathered })
         }

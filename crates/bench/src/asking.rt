@@ -7,7 +7,7 @@ ghost use Rattle.bench.specs.Answered.{look_text, judge_text, allow_text};
 
 use crate::refusal::Refusal;
 use crate::telling::Answer;
-use crate::timings::read_timings;
+use crate::timings::checked_timings;
 use benchlines::numbers::read_numbers;
 use board::board::Board;
 use model::judge::{Judge, SizingJudge};
@@ -27,7 +27,7 @@ pub(crate) fn judge<J: Judge, P>(
     requires { rows ≤ 40 }
     ensures { outcome_text (plan board.now) result ≡ judge_text (J.accepts board.now.judge) (fields line.now) rows }
 {
-    let timings = read_timings(line, 1, rows)?;
+    let timings = checked_timings(line, 1, rows)?;
     Ok(Answer::Verdict(board.judge.judge(timings.as_slice())))
 }
 
@@ -41,6 +41,6 @@ pub(crate) fn allow<J: SizingJudge, P>(
     ensures { outcome_text (plan board.now) result ≡ allow_text (J.allows board.now.judge) (fields line.now) rows }
 {
     let [period, cap] = read_numbers::<2>(line, 1)?;
-    let timings = read_timings(line, 3, rows)?;
+    let timings = checked_timings(line, 3, rows)?;
     Ok(Answer::Allowance(board.judge.allowance(timings.as_slice(), period, cap)))
 }

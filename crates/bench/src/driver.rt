@@ -21,6 +21,7 @@ const KEPT: usize = LONGEST_LINE + 1;
 // Waits for the first line, and keeps the board that it asks for.
 pub fn serve<I: Read + Drop>(rt: &HostRuntime, input: I) -> io::Result<()> {
     let mut reader = Reader::new(input);
+    // An input of unknown bytes has no measure, so the loop is counted.
     for _ in 0..u64::MAX {
         let Some(line) = next_line(&mut reader)? else {
             break;
@@ -87,6 +88,7 @@ impl<I: Read> Work for Session<'_, I> {
         };
         let said = reply::opened(rt.alloc(), processors)?;
         rt.write_all(said.as_bytes())?;
+        // Counted, as above.
         for _ in 0..u64::MAX {
             let Some(line) = next_line(reader)? else {
                 break;

@@ -1,4 +1,4 @@
-// Why a line after the first is refused.
+// Why a line after the first is refused. Not Numbered: refusals of images may differ in their place alone.
 ghost use Rattle.std.specs.Prelude.{◌≡◌};
 ghost use Rattle.bench.specs.declared.refusal.Refusal.TheVariants.{Line, Request, Name, Stored};
 ghost use Rattle.bench.specs.Outcomes.{refusal_number, refusal_place};
@@ -26,7 +26,7 @@ impl Refusal {
         }
     }
 
-    // Only an image has places.
+    // Only an image has places; 0 elsewhere, as a refusal is told.
     pub(crate) fn place(&self) -> u16
         ensures { result ≡ refusal_place self.now }
     {

@@ -12,7 +12,7 @@ use processor::few::Few;
 
 // So many rows from a place on, or the refusal of the first field that is no number, or else of the first limit that a row breaks.
 #[tactic(auto, using(crate::proofs::RowsRead::rows_timed))]
-pub fn read_timings(line: &[u8], first: usize, count: usize) -> Result<Few<Timing, 40>, Refusal>
+pub fn checked_timings(line: &[u8], first: usize, count: usize) -> Result<Few<Timing, 40>, Refusal>
     requires { (count ≤ 40) × (first ≤ 1000) }
     ensures { kept result ≡ timings_read (fields line.now) first count }
 {

@@ -9,7 +9,7 @@ use lines::numbers::read_number;
 use model::fault::LineFault;
 
 // The number at a place.
-pub fn number_at(line: &[u8], place: usize) -> Result<u32, LineFault>
+pub fn number_read(line: &[u8], place: usize) -> Result<u32, LineFault>
     ensures { result ≡ number_of (slice_index_or (fields line.now) place []) }
 {
     read_number(field(line, place))
@@ -23,7 +23,7 @@ pub fn read_numbers<const N: usize>(line: &[u8], from: usize) -> Result<[u32; N]
 {
     let mut numbers = [0; N];
     for (i, number) in numbers.iter_mut().enumerate() {
-        *number = number_at(line, from + i)?;
+        *number = number_read(line, from + i)?;
     }
     Ok(numbers)
 }

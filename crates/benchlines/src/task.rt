@@ -10,7 +10,7 @@ use model::fault::LineFault;
 // A line may have this many bytes, its newline not counted.
 pub const LONGEST_LINE: usize = 12_000;
 
-// A line may have this many rows.
+// A line may have this many rows. A count of them is a number and no type: definitions of tasks would have to carry a proof.
 pub const MOST_ROWS: usize = 40;
 
 // More fields than any line may have.
@@ -83,7 +83,7 @@ fn rows_after(first: usize, count: usize) -> Result<usize, LineFault>
     Err(LineFault::Fields)
 }
 
-// How many fields a line has; of more than any line may have, not all are counted.
+// How many fields a line has; 127 stands for any more.
 pub fn count_fields(line: &[u8]) -> usize
     ensures { result ≡ min 127 (length (fields line.now)) }
 {

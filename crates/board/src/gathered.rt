@@ -1,4 +1,4 @@
-// What a withdrawal gathered: for each processor of the board the key gathered there, or 0. No key is 0, and the answer has this form wherever it is told.
+// What a withdrawal gathered: for each processor of the board the key gathered there, or 0, which is no key: docs/rules.md gives the answer this form.
 use processor::few::Few;
 
 #[derive(Drop)]

@@ -24,7 +24,7 @@ impl From<AllocError> for SetupError {
 }
 
 impl<J: Drop, P: Drop> Board<J, P> {
-    // A board of so many processors, without a row. All that is passed moves into it: a struct of the four would be the board again.
+    // A board of so many processors, without a row. Four arguments: a struct of them would be made for this call alone.
     pub fn new(heap: Global, processors: u32, judge: J, rule: P) -> Result<Board<J, P>, SetupError>
         ensures { Set processors judge rule result }
     {

@@ -14,7 +14,7 @@ use model::timing::Timing;
 use processor::rows::Processor;
 
 impl<J: SizingJudge, P> Board<J, P> {
-    // The next tail of a newcomer of which this head is left, and what is left then.
+    // The next tail of a newcomer of which this head is left, and what is left then. Cuts and head stay apart: a whole is placed with no cuts.
     pub fn next_cut(&self, cuts: &[Cut], head: Timing) -> Option<(Cut, Timing)>
         ensures { result ≡ next_cut (J.SizingJudge.allows self.now.judge) (plan self.now) cuts.now head }
     {

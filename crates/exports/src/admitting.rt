@@ -31,6 +31,7 @@ pub extern "C" fn wadispoon_admit(
 fn admit_all<J: SizingJudge, P: Placement>(board: &mut Board<J, P>, wanted: &[Wanted]) -> u64
     ensures { result ≡ count_over (admitting P.Rank.Rank.first (P.ranks board.old.rule) (J.Judge.accepts board.old.judge) (J.allows board.old.judge)) (plan board.old) wanted.now }
 {
+    // A loop: a filter that changes the board as it goes would be no plainer.
     let mut count = 0;
     for one in wanted {
         if board.admit(*one).is_ok() {

@@ -10,7 +10,7 @@ use std::alloc::Global;
 use store::load::load;
 use wadispoon::sizes::Sizes;
 
-// The board, or the first refusal: the setting's, then the image's.
+// The board, or the first refusal: the setting's, then the image's. The arguments are those of the C interface.
 pub(crate) fn open(
     heap: Global,
     setting: &Setting,

@@ -1,4 +1,4 @@
-// Why a host's call is refused.
+// Why a host's call is refused. Not Numbered: refusals of images may differ in their place alone.
 ghost use Rattle.std.specs.Prelude.{◌≡◌};
 ghost use Rattle.exports.specs.declared.refusal.Refusal.TheVariants.{Setup, Row, Image, Memory};
 ghost use Rattle.exports.specs.Refusal.{refusal_number};

@@ -30,6 +30,7 @@ pub extern "C" fn wadispoon_withdraw(
 fn withdraw_all<J: Judge, P>(board: &mut Board<J, P>, keys: &[u32]) -> u64
     ensures { result ≡ count_over (withdrawing (J.accepts board.old.judge)) (plan board.old) keys.now }
 {
+    // A loop: a filter that changes the board as it goes would be no plainer.
     let mut count = 0;
     for key in keys {
         if board.withdraw(*key).is_ok() {

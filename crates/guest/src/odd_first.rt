@@ -21,12 +21,7 @@ impl Rank for Side {
     ghost total = { Prim.search rules };
 
     fn before(&self, other: &Side) -> bool {
-        match (*self, *other) {
-            (Side::Odd(a), Side::Odd(b)) => a < b,
-            (Side::Odd(_), Side::Even(_)) => true,
-            (Side::Even(_), Side::Odd(_)) => false,
-            (Side::Even(a), Side::Even(b)) => a < b,
-        }
+        self < other
     }
 }
 

@@ -136,7 +136,7 @@ impl Tail<'_> {
         ensures { Table scale self.now.curve.steps self.now.curve.list.now (length self.now.curve.list.now) result }
     {
         let mut rows = [[0; 10]; 31];
-        // By index: through `iter_mut().zip(..)` no proof knows what is written.
+        // By index: `from_fn` needs a function more, with a row for places past the list, and through `iter_mut().zip(..)` no proof knows what is written.
         for (i, x) in self.curve.list.iter().enumerate() {
             rows[i] = self.curve.slacks(x);
         }

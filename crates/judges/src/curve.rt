@@ -116,7 +116,7 @@ fn slopes(list: &[Timing]) -> [u32; 32]
     ensures { take (length list.now) result ≡ map (share scale) list.now }
 {
     let mut slopes = [0; 32];
-    // By index: `from_fn` takes 40 ns longer, and through `iter_mut().zip(..)` no proof knows what is written.
+    // By index: `from_fn` fills all 32 places, 40 ns more where two rows take 100, and through `iter_mut().zip(..)` no proof knows what is written.
     for (i, x) in list.iter().enumerate() {
         slopes[i] = x.share() as u32;
     }

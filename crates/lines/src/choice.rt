@@ -12,6 +12,7 @@ use placement::best::Best;
 use placement::fewest::Fewest;
 use placement::rule::Placement;
 
+// Work that is done with a judge and a rule, whichever they are.
 pub trait Work {
     type Output;
 

@@ -1,4 +1,4 @@
-// Bytes that were read together, in memory that is fixed, and how far they are used.
+// Bytes that were read together, in fixed memory, and how far they are used: std's buffered reader has a heap.
 ghost use Rattle.std.specs.Prelude.{◌≤◌};
 
 #[derive(Clone, Copy)]

@@ -36,7 +36,7 @@ pub fn count_fields(line: &[u8]) -> usize
         .count()
 }
 
-// Whether two texts have the same bytes.
+// Whether two texts have the same bytes. `==` compares no slice with an array, as `b".."` is.
 pub fn same(a: &[u8], b: &[u8]) -> bool
     ensures { result ≡ bytes_eq a.now b.now }
 {

@@ -1,4 +1,4 @@
-// The console's lines and replies: what a line asks, why it is refused, and the bytes of an answer. Needs no board.
+// The lines of the console: what they ask and how they are answered; and the reader and the choice of a judge that the workbench shares.
 #![tactic(auto)]
 
 pub mod choice;

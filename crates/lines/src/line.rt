@@ -1,11 +1,9 @@
 // A line that is being read, in memory that is fixed: its first N bytes. With one more than a line may have, one that is too long shows.
-ghost use Rattle.std.specs.Prelude.{◌≤◌};
+use arrayvec::ArrayVec;
 
-#[derive(Clone, Copy)]
+#[derive(Drop)]
 pub struct Line<const N: usize> {
-    bytes: [u8; N],
-    len: usize,
-    ghost within: { len ≤ N },
+    bytes: ArrayVec<u8, N>,
 }
 
 impl<const N: usize> Line<N> {
@@ -16,8 +14,7 @@ impl<const N: usize> Line<N> {
         ensures { held result ≡ [] }
     {
         Line {
-            bytes: [0; N],
-            len: 0,
+            bytes: ArrayVec::new(),
         }
     }
 
@@ -25,7 +22,7 @@ impl<const N: usize> Line<N> {
     pub fn text(&self) -> &[u8]
         ensures { result.now ≡ held self.now }
     {
-        &self.bytes[..self.len]
+        self.bytes.as_slice()
     }
 
     // Takes the next byte, and answers whether it ends the line. What a line has beyond N bytes is let go.
@@ -40,20 +37,12 @@ impl<const N: usize> Line<N> {
         false
     }
 
-    // Begins the next line.
-    pub fn clear(&mut self)
-        ensures { held self.new ≡ [] }
-    {
-        self.len = 0;
-    }
-
     // One byte more, while fewer than N are kept.
     fn push(&mut self, byte: u8)
         ensures { held self.new ≡ take N (held self.old ++ (byte ∷ [])) }
     {
-        if self.len < N {
-            self.bytes[self.len] = byte;
-            self.len += 1;
+        if !self.bytes.is_full() {
+            self.bytes.push(byte);
         }
     }
 }

@@ -12,7 +12,7 @@ impl Kind {
         matches!(self, Kind::Tail(_))
     }
 
-    // The part that a row is of its reservation: a tail's number, and 0 for a whole or a head.
+    // The part that a row is of its reservation: a tail's number, and 0, the first part, for a whole or a head.
     pub fn part(&self) -> u8
         ensures { result ≡ part self.now }
     {

@@ -7,7 +7,7 @@ use crate::timing::Timing;
 pub const LONGEST_PERIOD: u32 = 100_000;
 
 impl Timing {
-    // A timing of these numbers, or the first limit that they break. Three numbers: a struct of them is what a timing is once they are checked.
+    // A timing of these numbers, or the first limit that they break. Three numbers: callers have them in structs of different forms.
     pub fn new(budget: u32, deadline: u32, period: u32) -> Result<Timing, RequestFault>
         ensures { Timed budget deadline period result }
     {

@@ -47,7 +47,7 @@ fn densities(list: &[Timing]) -> u64
     list.iter().map(|x| x.density()).sum()
 }
 
-// The longest tail that may stand alone, at most `cap`: beside another timing there is none.
+// The longest tail that may stand alone, at most `cap`: beside another timing there is none. What a judge is asked, as it is asked.
 pub fn alone(list: &[Timing], period: u32, cap: u32) -> u32
     ensures { result ≡ alone list.now period cap }
 {

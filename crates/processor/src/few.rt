@@ -1,4 +1,4 @@
-// A list of at most N elements that needs no memory of its own.
+// A list of at most N elements that needs no memory of its own. No ArrayVec: it asks for a default, and a timing has none.
 ghost use Rattle.std.specs.Prelude.{◌≤◌};
 
 #[derive(Drop)]

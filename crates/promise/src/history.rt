@@ -19,7 +19,7 @@ pub struct Outcome<J, P> {
     pub answers: Vec<Answer>,
 }
 
-// Sets a board up and makes the calls. Room for the answers is taken before the first call, so that no answer is ever want of memory.
+// Sets a board up, of what a board is set up with, and makes the calls. Room for the answers is taken before the first call, so that no answer is ever want of memory.
 pub fn run<J: SizingJudge + Drop, P: Placement + Drop>(
     heap: Global,
     processors: u32,

@@ -2,11 +2,15 @@
 ghost use Rattle.std.specs.Prelude.{◌≡◌, []};
 ghost use Rattle.lines.specs.Reading.{left, Told};
 
+use lines::command::LONGEST_LINE;
 use lines::fields::same;
 use lines::line::Line;
 use lines::reader::Reader as Lines;
 use std::io;
 use std::io::Read;
+
+// One byte more than a line may have, so that one that is too long shows.
+const KEPT: usize = LONGEST_LINE + 1;
 
 #[derive(Drop)]
 pub struct Reader<I> {
@@ -16,11 +20,11 @@ pub struct Reader<I> {
 }
 
 // What comes next in a session.
-#[derive(Clone, Copy)]
+#[derive(Drop)]
 pub enum Next {
-    Line(Line<81>),
+    Line(Line<KEPT>),
     // The line `----`, as it was read.
-    Mark(Line<81>),
+    Mark(Line<KEPT>),
     // The end of the input.
     End,
 }

@@ -19,6 +19,7 @@ impl Image<'_> {
         // In place: loading takes no memory.
         let mut reached = [false; 256];
         let mut chains = Chains::new(0);
+        // A head's place follows from its number: there is no slice to go over.
         for p in 0..self.processors {
             chains.push(self.follow(p, &mut reached)?);
         }

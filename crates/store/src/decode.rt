@@ -36,7 +36,7 @@ impl<'a> Image<'a> {
         })
     }
 
-    // The number of the first record of a processor's chain, processors counted from 0.
+    // The number of the first record of a processor's chain, processors counted from 0; 0 for none, as the format has it.
     pub(crate) fn head(&self, processor: usize) -> u16
         requires { processor < self.now.processors }
         ensures { result ≡ head_at self.now.bytes.now processor }
@@ -44,7 +44,7 @@ impl<'a> Image<'a> {
         two_at(self.bytes, 4 + 2 * processor)
     }
 
-    // The number of the record that follows a record in its chain.
+    // The number of the record that follows a record in its chain; 0 for none, as the format has it.
     pub(crate) fn next(&self, number: u16) -> u16
         requires { (1 ≤ number) × (number ≤ self.now.records) }
         ensures { result ≡ next_at self.now.processors self.now.bytes.now number }

@@ -1,4 +1,4 @@
-// Refusals of a buffer or an image, by their rule, with the place where the rule fails. specs/Refusal.antt has the numbers.
+// Refusals of a buffer or an image, by their rule, with the place where the rule fails.
 ghost use Rattle.std.specs.Prelude.{◌≡◌};
 ghost use Rattle.std.proofs.Common.{rules};
 ghost use Rattle.store.specs.Fault.{fault};

@@ -1,4 +1,4 @@
-// A short list for each of at most eight processors, in place: loading takes no memory.
+// A short list for each of at most eight processors, in place: loading takes no memory. No Few of Few, which would copy its filler: a Few is no Copy.
 ghost use Rattle.std.specs.Prelude.{◌≤◌};
 
 use model::row::Row;

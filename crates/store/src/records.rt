@@ -21,6 +21,7 @@ impl Image<'_> {
         ensures { ReadAll (entry_at self.now.processors self.now.bytes.now) self.now.records result }
     {
         let mut rows = Few::new(filler());
+        // A record's place follows from its number: there is no slice to go over.
         for number in 1..self.records as u16 + 1 {
             rows.push(self.row(number)?);
         }

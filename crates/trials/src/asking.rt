@@ -49,20 +49,16 @@ pub(crate) fn admits_all<J: SizingJudge, P: Placement>(
     board: &mut Board<J, P>,
     asked: &[(u32, u32, u32)],
 ) -> bool {
-    for (key, budget, period) in asked {
-        if admitted(board, *key, *budget, *period, *period) != 0 {
-            return false;
-        }
-    }
-    true
+    asked
+        .iter()
+        .all(|(key, budget, period)| admitted(board, *key, *budget, *period, *period) == 0)
 }
 
 // Whether the key is withdrawn and just these are gathered, on the processors in turn.
 pub(crate) fn gathers<J: Judge, P>(board: &mut Board<J, P>, key: u32, keys: &[u16]) -> bool {
-    match board.withdraw(key) {
-        Ok(gathered) => gathered.keys.as_slice() == keys,
-        Err(_) => false,
-    }
+    board
+        .withdraw(key)
+        .is_ok_and(|gathered| gathered.keys.as_slice() == keys)
 }
 
 // Whether a processor holds these rows in this order, and no others.

@@ -11,7 +11,7 @@ use std::alloc::{AllocError, Global};
 pub const MOST_PROCESSORS: u32 = 8;
 
 impl Sizes {
-    // The processor count is checked first, then the steps, then the refinements, whatever the judge will be.
+    // The processor count is checked first, then the steps, then the refinements, whatever the judge will be. Three numbers: checked, they are Sizes.
     pub fn new(processors: u32, steps: u32, refinements: u32) -> Result<Sizes, SetupFault>
         ensures { Sized processors steps refinements result }
     {
@@ -37,7 +37,7 @@ impl Sizes {
         match Board::new(heap, self.processors as u32, judge, rule) {
             Ok(board) => Ok(board),
             Err(SetupError::Memory) => Err(AllocError),
-            Err(SetupError::Refused(_)) => unreachable(),
+            Err(SetupError::Refused(_)) => unreachable!(),
         }
     }
 }
