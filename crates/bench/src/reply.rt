@@ -1,4 +1,4 @@
-// The reply lines.
+// The reply lines, as heap text: that of an image has no room in the replies of fixed length.
 ghost use Rattle.std.specs.Prelude.{◌≡◌, IfOk, string_bytes};
 ghost use Rattle.lines.specs.Replies.{row_line, gone_line, board_line};
 ghost use Rattle.bench.specs.Replies.{refused_at, image_line, shown_line, timing_line, allowance_line, verdict_line};

@@ -10,7 +10,7 @@ ghost use Rattle.bench.specs.Outcomes.{answer_text};
 use crate::reply;
 use board::admission::{Admission, Placed};
 use board::board::Board;
-use board::gathered::Gathered;
+use board::gathered::{Gathered, gathered_row};
 use model::row::Row;
 use processor::rows::Processor;
 use std::alloc::{AllocError, Global};
@@ -81,13 +81,13 @@ fn left(
     Ok(text)
 }
 
-// Key 0 says that nothing was gathered.
+// A line for the row that was gathered, if one was.
 fn gathered_on(heap: Global, number: u8, key: u16, rows: &[Row]) -> Result<String, AllocError>
     ensures { IfOk result (λ s. string_bytes s ≡ gathered_line number key rows.now) }
 {
-    match rows.last() {
-        Some(row) if key != 0 => reply::placed(heap, number, *row),
-        _ => Ok(String::new(heap)),
+    match gathered_row(key, rows) {
+        Some(row) => reply::placed(heap, number, row),
+        None => Ok(String::new(heap)),
     }
 }
 

@@ -70,7 +70,7 @@ fn all_digits(text: &[u8]) -> bool
     text.iter().all(|byte| read_digit(*byte).is_some())
 }
 
-// The value of a digit of either case; other bytes have none.
+// The value of a digit of either case; other bytes have none. `to_digit` would take a char, a radix and a conversion back.
 fn read_digit(byte: u8) -> Option<u8>
     ensures { result ≡ digit_value byte }
 {

@@ -1,5 +1,6 @@
 -- Withdrawal: a reservation's rows are removed, and split reservations give way to one whole row where it then fits. Assumes nothing.
-use Rattle.std.specs.Prelude.{ℕ, suc, ◌+◌, Bool, true, false, cond, not, ◌&&◌, List, [], ◌∷◌, ◌++◌, map, Some, None, Ok, Err, Option, Result, nat_lt, slice_index_or}
+use Rattle.std.specs.Prelude.{ℕ, suc, ◌+◌, Bool, true, false, cond, not, ◌&&◌, List, [], ◌∷◌, ◌++◌, map, Some, None, Ok, Err, Option, Result, nat_lt, slice_index_or, ◌-◌, ◌==◌, length}
+use Rattle.std.specs.List.{slice_get}
 use Rattle.model.specs.Row.{timings, due}
 use Rattle.model.specs.declared.timing.Timing.{Timing}
 use Rattle.model.specs.declared.row.Kind.{Kind}
@@ -75,3 +76,7 @@ key_or_zero None = 0
 abbrev pub told : Result Gathered NamingFault → Result (List ℕ) NamingFault
 told (Ok gathered) = Ok (held gathered.keys)
 told (Err fault) = Err fault
+
+-- the row that was gathered on a processor stands last there; key 0 says that none was
+abbrev pub gathered_row : ℕ → List Row → Option Row
+gathered_row key rows = cond (key == 0) None (slice_get rows (length rows - 1))

@@ -1,5 +1,5 @@
 -- A judge for timings that share one period: its yes and its tail allowance. Assumes nothing.
-use Rattle.std.specs.Prelude.{ℕ, ◌+◌, min, Bool, true, cond, ◌&&◌, ◌||◌, List, [], ◌∷◌, length, ◌==◌, nat_le}
+use Rattle.std.specs.Prelude.{ℕ, ◌+◌, Bool, true, ◌&&◌, ◌||◌, List, [], ◌∷◌, length, ◌==◌, nat_le}
 use Rattle.std.specs.List.{list_all}
 use Rattle.model.specs.declared.timing.Timing.{Timing}
 use Rattle.model.specs.Share.{densities, alone}

@@ -14,10 +14,6 @@ abbrev pub line_if : ℕ → Option Row → List ℕ
 line_if p (Some row) = row_line p row
 line_if p None = []
 
--- the row that was gathered on a processor, if any was
-abbrev pub gathered_row : ℕ → List Row → Option Row
-gathered_row key rows = cond (key == 0) None (slice_get rows (length rows - 1))
-
 -- the last of a processor's rows, as a line
 abbrev pub last_line : ℕ → List Row → List ℕ
 last_line p rows = line_if p (slice_get rows (length rows - 1))

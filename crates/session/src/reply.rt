@@ -2,11 +2,11 @@
 ghost use Rattle.std.specs.Prelude.{◌≡◌, ◌+◌, ◌*◌, ◌≤◌, ◌++◌, map, length};
 ghost use Rattle.processor.specs.Rows.{rows_of};
 ghost use Rattle.lines.specs.Replies.{text_of};
-ghost use Rattle.session.specs.Rows.{rows_text, gathered_row, gathered_line, gathered_text};
+ghost use Rattle.session.specs.Rows.{rows_text, gathered_line, gathered_text};
 
 use board::admission::Placed;
+use board::gathered::gathered_row;
 use lines::reply::Reply;
-use model::row::Row;
 use processor::rows::Processor;
 
 // A line for each row: at most 30 bytes a row.
@@ -46,14 +46,4 @@ fn add_gathered_row<const N: usize>(
     if let Some(row) = gathered_row(key, processor.rows.as_slice()) {
         reply.row(number, row);
     }
-}
-
-// What was gathered on a processor stands last there; key 0 says that nothing was.
-fn gathered_row(key: u16, rows: &[Row]) -> Option<Row>
-    ensures { result ≡ gathered_row key rows.now }
-{
-    if key == 0 {
-        return None;
-    }
-    rows.last().copied()
 }

@@ -1,4 +1,4 @@
-// A short list for each of at most eight processors, in place: loading takes no memory. No Few of Few, which would copy its filler: a Few is no Copy.
+// A short list for each of at most eight processors, in place: loading takes no memory. Not a Few of Few: the methods of this crate stand on it.
 ghost use Rattle.std.specs.Prelude.{◌≤◌};
 
 use model::row::Row;

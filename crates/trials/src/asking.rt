@@ -49,9 +49,7 @@ pub(crate) fn admits_all<J: SizingJudge, P: Placement>(
     board: &mut Board<J, P>,
     asked: &[(u32, u32, u32)],
 ) -> bool {
-    asked
-        .iter()
-        .all(|(key, budget, period)| admitted(board, *key, *budget, *period, *period) == 0)
+    asked.iter().all(|(key, budget, period)| admitted(board, *key, *budget, *period, *period) == 0)
 }
 
 // Whether the key is withdrawn and just these are gathered, on the processors in turn.
