@@ -1,5 +1,5 @@
 // A list of withdrawals from a stored plan.
-ghost use Rattle.std.specs.Prelude.{◌≡◌};
+ghost use Rattle.std.specs.Prelude.{◌≡◌, ◌≤◌};
 ghost use Rattle.board.specs.Plan.{plan};
 ghost use Rattle.exports.specs.Boards.{count_over, withdrawing, Withdrawing};
 
@@ -30,12 +30,20 @@ pub extern "C" fn wadispoon_withdraw(
 fn withdraw_all<J: Judge, P>(board: &mut Board<J, P>, keys: &[u32]) -> u64
     ensures { result ≡ count_over (withdrawing (J.accepts board.old.judge)) (plan board.old) keys.now }
 {
-    // A loop: a filter that changes the board as it goes would be no plainer.
     let mut count = 0;
+    // A loop: a sum over calls that change the board would be no plainer.
     for key in keys {
-        if board.withdraw(*key).is_ok() {
-            count += 1;
-        }
+        count += withdraw_one(board, *key);
     }
     count
+}
+
+// What one call adds to the count.
+fn withdraw_one<J: Judge, P>(board: &mut Board<J, P>, key: u32) -> u64
+    ensures value { result ≡ (withdrawing (J.accepts board.old.judge) (plan board.old) key).0 }
+    ensures bound { result ≤ 1 }
+    ensures after { plan board.new ≡ (withdrawing (J.accepts board.old.judge) (plan board.old) key).1 }
+    ensures judge { board.new.judge ≡ board.old.judge }
+{
+    board.withdraw(key).is_ok() as u64
 }
