@@ -49,7 +49,7 @@ fn settle(settings: Settings) -> Result<Opening, SetupFault>
     })
 }
 
-// A board has 1 to 8 processors.
+// A board has 1 to 8 processors. It checks that itself, but here a wrong count is told before a wrong judge.
 fn is_unfit(processors: u32) -> bool
     ensures { result ≡ unfit processors }
 {

@@ -10,6 +10,7 @@ use crate::fault::{BufferFault, BufferRule};
 use crate::image::Image;
 use crate::layout::image_length;
 
+// Records are asked by number: a type for a number that is one would be made anew at each step of a chain.
 impl<'a> Image<'a> {
     // The image, if its header suits a board of so many processors and its own length.
     pub(crate) fn read(processors: usize, bytes: &'a [u8]) -> Result<Image<'a>, BufferFault>

@@ -20,7 +20,7 @@ impl Writer<'_> {
         self.at = end;
     }
 
-    // For each processor the number of its first record.
+    // For each processor the number of its first record: the next after those of the processors before it, so the number is kept along the way.
     pub(crate) fn put_heads<J, P>(&mut self, board: &Board<J, P>)
         requires { self.old.at + 2 * vec_len board.now.plan.processors ≤ length self.old.buffer.now }
         ensures { Wrote self.old self.new (heads_bytes 1 (plan board.now)) }
@@ -33,7 +33,7 @@ impl Writer<'_> {
         }
     }
 
-    // The records of all processors' rows, numbered from 1 on.
+    // The records of all processors' rows, numbered from 1 on, the number kept as for the heads.
     pub(crate) fn put_records<J, P>(&mut self, board: &Board<J, P>)
         requires { self.old.at + 18 * row_count (plan board.now) ≤ length self.old.buffer.now }
         ensures { Wrote self.old self.new (records_bytes 1 (plan board.now)) }

@@ -11,7 +11,8 @@ use std::alloc::{AllocError, Global};
 pub const MOST_PROCESSORS: u32 = 8;
 
 impl Sizes {
-    // The processor count is checked first, then the steps, then the refinements, whatever the judge will be. Three numbers: checked, they are Sizes.
+    // The processor count is checked first, then the steps, then the refinements, whatever the judge will be. Three numbers: checked, they are Sizes. The board checks the
+    // count too, but after the judge is made.
     pub fn new(processors: u32, steps: u32, refinements: u32) -> Result<Sizes, SetupFault>
         ensures { Sized processors steps refinements result }
     {
