@@ -36,6 +36,21 @@ pub saved_ok : (ps : List Processor) (n : ℕ) (r : Result ℕ BufferFault) → 
     r ≡ cond (ltb n (length (image (map rows_of ps)))) (Err (fault BufferRule.Room 0)) (Ok (length (image (map rows_of ps)))) → IsOk r
 saved_ok ps n r h long = ok_by (ltb n (length (image (map rows_of ps)))) r (length (image (map rows_of ps))) (fault BufferRule.Room 0) (fitting ps n h long)
 
+long_by : (b : Bool) (m n : ℕ) (g : BufferFault) → b ≡ false → Ok m ≡ cond b (Err g) (Ok n) → m ≡ n
+long_by true m n g e h = absurd (let z : ◌≡◌ {A = ℕ} 0 1 = cc in omega arith)
+long_by false m n g e h = cc
+
+pub image_front : (ps : List Processor) (n m : ℕ) (buffer rest then : List ℕ) → length ps ≤ 8 → n ≡ 4628 →
+    Ok m ≡ cond (ltb n (length (image (map rows_of ps)))) (Err (fault BufferRule.Room 0)) (Ok (length (image (map rows_of ps)))) →
+    then ≡ cond (ltb n (length (image (map rows_of ps)))) buffer (image (map rows_of ps) ++ rest) →
+    take (m - 0) then ≡ image (map rows_of ps)
+image_front ps n m buffer rest then h long value after =
+    let bytes = image (map rows_of ps) in
+    let e = fitting ps n h long in
+    let count : m ≡ length bytes = long_by (ltb n (length bytes)) m (length bytes) (fault BufferRule.Room 0) e value in
+    let all : length bytes ≡ m - 0 = omega arith in
+    ap (take (m - 0)) (after ∙ rw e refl) ∙ take_at bytes rest (m - 0) all
+
 short_if : (b : Bool) (x y : List (List ℕ)) (n : ℕ) → AllByRecursion (λ g. length g ≤ n) x → AllByRecursion (λ g. length g ≤ n) y → AllByRecursion (λ g. length g ≤ n) (cond b x y)
 short_if true x y n hx hy = hx
 short_if false x y n hx hy = hy

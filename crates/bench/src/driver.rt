@@ -18,12 +18,17 @@ use std::io::Read;
 // One byte more than a line may have, so that one that is too long shows.
 const KEPT: usize = LONGEST_LINE + 1;
 
-// Waits for the first line, and keeps the board that it asks for.
+// One session over an input.
 pub fn serve<I: Read + Drop>(rt: &HostRuntime, input: I) -> io::Result<()> {
     let mut reader = Reader::new(input);
+    run(rt, &mut reader)
+}
+
+// Waits for the first line, and keeps the board that it asks for. What follows a refused first line is not read.
+pub fn run<I: Read>(rt: &HostRuntime, reader: &mut Reader<I>) -> io::Result<()> {
     // An input of unknown bytes has no measure, so the loop is counted.
     for _ in 0..u64::MAX {
-        let Some(line) = next_line(&mut reader)? else {
+        let Some(line) = next_line(reader)? else {
             break;
         };
         if is_blank(line.text()) {
@@ -31,7 +36,7 @@ pub fn serve<I: Read + Drop>(rt: &HostRuntime, input: I) -> io::Result<()> {
         }
         return match read_opening(line.text()) {
             Err(fault) => refuse(rt, &fault),
-            Ok(opening) => keep(rt, &mut reader, opening),
+            Ok(opening) => keep(rt, reader, opening),
         };
     }
     Ok(())

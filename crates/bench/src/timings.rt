@@ -1,10 +1,10 @@
 // The rows of a line: three numbers each, all of them read before a limit is looked at.
-ghost use Rattle.std.specs.Prelude.{◌≡◌, ◌≤◌, length};
+ghost use Rattle.std.specs.Prelude.{◌≡◌, ◌+◌, ◌≤◌, length};
 ghost use Rattle.lines.specs.Fields.{fields};
-ghost use Rattle.bench.specs.Timings.{timings_read, timings_by, rows_read, kept};
+ghost use Rattle.bench.specs.Timings.{timing_at, timings_at, timings_read, timings_by, rows_read, kept};
 
 use crate::refusal::Refusal;
-use benchlines::numbers::read_numbers;
+use benchlines::numbers::{number_at, read_numbers};
 use model::fault::{LineFault, RequestFault};
 use model::timing::Timing;
 use processor::asking::UNUSED;
@@ -42,4 +42,32 @@ fn limited(rows: &[[u32; 3]]) -> Result<Few<Timing, 40>, RequestFault>
         timings.push(Timing::new(*budget, *deadline, *period)?);
     }
     Ok(timings)
+}
+
+// So many rows from a place on, or the first limit that one breaks. A field that is no number counts as 0.
+pub fn read_timings(
+    line: &[u8],
+    first: usize,
+    count: usize,
+) -> Result<Few<Timing, 40>, RequestFault>
+    requires { (count ≤ 40) × (first ≤ 1000) }
+    ensures { kept result ≡ timings_at (fields line.now) first count }
+{
+    let mut timings = Few::new(UNUSED);
+    for i in 0..count {
+        timings.push(read_timing(line, first + 3 * i)?);
+    }
+    Ok(timings)
+}
+
+// The row whose three numbers begin at a place.
+fn read_timing(line: &[u8], at: usize) -> Result<Timing, RequestFault>
+    requires { at ≤ 2000 }
+    ensures { result ≡ timing_at (fields line.now) at }
+{
+    Timing::new(
+        number_at(line, at),
+        number_at(line, at + 1),
+        number_at(line, at + 2),
+    )
 }

@@ -1,4 +1,5 @@
 pub mod Hexes
+pub mod Counts
 pub mod Reading
 pub mod Words
 pub mod Opened

@@ -1,0 +1,29 @@
+use Rattle.std.proofs.Common.{[], ◌∷◌, length, ap, arith, length-append}
+use Rattle.std.proofs.lemmas.Result.{err_from_is_err_and}
+use Rattle.lines.specs.Fields.{fields}
+use Rattle.processor.specs.Few.{held}
+use Rattle.bench.proofs.RowsRead.{rows_none, room_more, rows_more, rows_stop, rows_all}
+use Rattle.bench.proofs.timings.read_timings.Goals as goal
+
+pub loop-i-init : goal.loop-i-init
+loop-i-init c = (rows_none (fields c.args.line.now) (held c.new-timings.result) c.args.first c.args.count c.new-timings.ensures, ap length c.new-timings.ensures)
+
+pub returns-in_err-read_timing : goal.returns-in_err-read_timing
+returns-in_err-read_timing c =
+    let p = err_from_is_err_and c.from_residual.result c.from_residual.ensures.1 in
+    rw (p.1, p.2)
+    (rows_stop (fields c.args.line.now) c.args.first c.args.count c.loop-i.i (held c.loop-i.timings) c.in_err-read_timing.field-0.0
+    c.read_timing.result _ (omega arith) c.read_timing.ensures c.in_err-read_timing.was c.loop-i.invariant.0)
+
+pub loop-i-preserved : goal.loop-i-preserved
+loop-i-preserved c =
+    let xs = held c.loop-i.timings in let x = c.in_ok-read_timing.field-0 in
+    let longer = room_more xs (held c.push.new.self) x (omega arith) c.push.ensures.after in (
+      rows_more (fields c.args.line.now) c.args.first c.args.count c.loop-i.i xs (held c.push.new.self) x
+          c.read_timing.result _ (omega arith) c.read_timing.ensures c.in_ok-read_timing.was longer c.loop-i.invariant.0,
+      omega (arith, ap length longer, length-append xs (x ∷ [])),
+    )
+
+pub returns : goal.returns
+returns c =
+    rows_all (fields c.args.line.now) _ c.args.count c.loop-i.i (held c.loop-i.timings) _ (omega arith) c.loop-i.invariant.0
