@@ -3,4 +3,5 @@ pub mod Splits
 pub mod Digits
 pub mod Words
 pub mod Sizes
+pub mod Puts
 pub mod Kept

@@ -1,11 +1,12 @@
--- The fields of a line are its parts between single spaces, but for those with no byte. Assumes nothing.
-use Rattle.std.proofs.Common.{◌≡◌, ℕ, Bool, true, false, cond, not, ◌==◌, List, [], ◌∷◌, ◌++◌, length, get_or, Option, Some, None, Bor, ap, refl, ◌∙◌, arith}
-use Rattle.std.specs.List.{filter, slice_split, onto_first, slice_get}
+-- The fields of a line are its parts between single spaces, but for those with no byte; how they follow each other in the line. Assumes nothing.
+use Rattle.std.proofs.Common.{◌≡◌, ℕ, ◌+◌, ◌-◌, ◌^◌, ◌<◌, ◌≤◌, min, Bool, true, false, cond, not, ◌==◌, List, [], ◌∷◌, ◌++◌, length, get_or, take, drop, Option, Some, None, Bor, ap, refl, ◌∙◌, one-add, arith}
+use Rattle.std.specs.List.{filter, slice_split, onto_first, slice_get, prefix_len, AllByRecursion}
 use Rattle.std.specs.Option.{option_map, unwrap_or}
 use Rattle.std.proofs.lemmas.Option.{unwrap_or-slice_get}
-use Rattle.std.proofs.lemmas.List.{append-nil, append_assoc}
+use Rattle.std.proofs.lemmas.List.{append-nil, append_assoc, length-take, length_push}
 use Rattle.std.proofs.lemmas.Bool.{ne_eqb}
-use Rattle.lines.specs.Fields.{is_space, ended, fields_after, fields}
+use Rattle.std.proofs.lemmas.Bool.Decides.{nat_tests}
+use Rattle.lines.specs.Fields.{is_space, is_other, ended, fields_after, fields}
 
 abbrev pub has_byte : List ℕ → Bool
 has_byte x = not (length x == 0)
@@ -54,3 +55,88 @@ read_field fs k r d is none = now_or r ∙ (ap (λ o. unwrap_or o d.now) is ∙ 
     now_or : (r : Option (Bor (List ℕ))) → (unwrap_or r d).now ≡ unwrap_or (option_map (λ x. x.now) r) d.now
     now_or None = refl
     now_or (Some x) = refl
+
+ended_few : (f : List ℕ) (fs : List (List ℕ)) → length (ended f fs) ≤ length f + length fs
+ended_few [] fs = omega arith
+ended_few (a ∷ f) fs = omega arith
+
+-- a field has a byte, so there are no more fields than bytes
+pub fields_few : (f l : List ℕ) → length (fields_after f l) ≤ length f + length l
+fields_few f [] = ended_few f []
+fields_few f (b ∷ l) = at (is_space b) (fields_few [] l) (fields_few (f ++ (b ∷ [])) l)
+  where
+    at : (t : Bool) → length (fields l) ≤ 0 + length l → length (fields_after (f ++ (b ∷ [])) l) ≤ length (f ++ (b ∷ [])) + length l
+        → length (cond t (ended f (fields l)) (fields_after (f ++ (b ∷ [])) l)) ≤ length f + length (b ∷ l)
+    at true end more = omega (arith, ended_few f (fields l))
+    at false end more = let longer = length_push f b in omega arith
+
+-- of n + 1 fields at most, or of all that there can be, n are found just where there are n
+pub one_more_shows : (fs : List (List ℕ)) (n most : ℕ) → (most ≡ min (n + 1) (2 ^ 64 - 1)) × (length fs < 2 ^ 64 - 1)
+    → (length (take most fs) == n) ≡ (length fs == n)
+one_more_shows fs n most is = grind (arith, nat_tests, length-take most fs)
+
+-- spaces in front part nothing
+pub fields_past_spaces : (l : List ℕ) → fields (drop (prefix_len is_space l) l) ≡ fields l
+fields_past_spaces [] = refl
+fields_past_spaces (b ∷ l) = at (is_space b) refl (fields_past_spaces l)
+  where
+    at : (t : Bool) → is_space b ≡ t → fields (drop (prefix_len is_space l) l) ≡ fields l
+        → fields (drop (cond t (1 + prefix_len is_space l) 0) (b ∷ l)) ≡ fields (b ∷ l)
+    at true e before = rw (one-add, e) before
+    at false e before = refl
+
+-- a part goes on to the next space
+pub fields_to_space : (f l : List ℕ) →
+    fields_after f l ≡ ended (f ++ take (prefix_len is_other l) l) (fields (drop (prefix_len is_other l) l))
+fields_to_space f [] = rw append-nil
+fields_to_space f (b ∷ l) = at (is_space b) refl (fields_to_space (f ++ (b ∷ [])) l)
+  where
+    at : (t : Bool) → is_space b ≡ t
+        → fields_after (f ++ (b ∷ [])) l ≡ ended ((f ++ (b ∷ [])) ++ take (prefix_len is_other l) l) (fields (drop (prefix_len is_other l) l))
+        → cond t (ended f (fields l)) (fields_after (f ++ (b ∷ [])) l)
+        ≡ ended (f ++ take (cond (not t) (1 + prefix_len is_other l) 0) (b ∷ l)) (fields (drop (cond (not t) (1 + prefix_len is_other l) 0) (b ∷ l)))
+    at true e more = rw (append-nil, e)
+    at false e more = rw one-add (rw append_assoc at more)
+
+-- no space stands in front once the spaces there are gone
+pub spaces_gone : (l : List ℕ) → prefix_len is_space (drop (prefix_len is_space l) l) ≡ 0
+spaces_gone [] = refl
+spaces_gone (b ∷ l) = at (is_space b) refl (spaces_gone l)
+  where
+    at : (t : Bool) → is_space b ≡ t → prefix_len is_space (drop (prefix_len is_space l) l) ≡ 0
+        → prefix_len is_space (drop (cond t (1 + prefix_len is_space l) 0) (b ∷ l)) ≡ 0
+    at true e before = rw one-add before
+    at false e before = rw e
+
+-- what begins with no space begins with its first field
+pub begins : (l : List ℕ) → prefix_len is_space l ≡ 0
+    → (take (prefix_len is_other l) l ≡ get_or (fields l) 0 []) × (fields (drop (prefix_len is_other l) l) ≡ drop 1 (fields l))
+begins [] none = (refl, refl)
+begins (b ∷ l) none = at (is_space b) none (fields_to_space (b ∷ []) l)
+  where
+    at : (t : Bool) → cond t (1 + prefix_len is_space l) 0 ≡ 0
+        → fields_after (b ∷ []) l ≡ (b ∷ take (prefix_len is_other l) l) ∷ fields (drop (prefix_len is_other l) l)
+        → (take (cond (not t) (1 + prefix_len is_other l) 0) (b ∷ l) ≡ get_or (cond t (fields l) (fields_after (b ∷ []) l)) 0 [])
+        × (fields (drop (cond (not t) (1 + prefix_len is_other l) 0) (b ∷ l)) ≡ drop 1 (cond t (fields l) (fields_after (b ∷ []) l)))
+    at true e more = absurd (omega arith)
+    at false e more = rw (one-add, more) (refl, refl)
+
+-- the first field of a line, and the line after it: n spaces stand in front, and m other bytes behind them
+pub next_is : (l t f r : List ℕ) (n m : ℕ) → n ≡ prefix_len is_space l → t ≡ drop n l → m ≡ prefix_len is_other t → f ≡ take m t → r ≡ drop m t
+    → (f ≡ get_or (fields l) 0 []) × (fields r ≡ drop 1 (fields l))
+next_is l t f r n m spaces here others first after =
+    let none : prefix_len is_space t ≡ 0 = rw (here, spaces) (spaces_gone l) in
+    let same : fields t ≡ fields l = rw (here, spaces) (fields_past_spaces l) in
+    rw (first, after, others, ← same) (begins t none)
+
+-- a field has at least one byte
+pub fields_some : (f l : List ℕ) → AllByRecursion (λ x. 0 < length x) (fields_after f l)
+fields_some [] [] = tt
+fields_some (a ∷ f) [] = (omega arith, tt)
+fields_some f (b ∷ l) = at (is_space b) f (fields_some [] l) (fields_some (f ++ (b ∷ [])) l)
+  where
+    at : (t : Bool) (g : List ℕ) → AllByRecursion (λ x. 0 < length x) (fields l) → AllByRecursion (λ x. 0 < length x) (fields_after (f ++ (b ∷ [])) l)
+        → AllByRecursion (λ x. 0 < length x) (cond t (ended g (fields l)) (fields_after (f ++ (b ∷ [])) l))
+    at true [] end more = end
+    at true (a ∷ g) end more = (omega arith, end)
+    at false g end more = more

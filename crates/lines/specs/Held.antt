@@ -5,7 +5,7 @@ use Rattle.lines.specs.Commands.{asked, blank}
 use Rattle.lines.specs.Setups.{setup_of}
 
 abbrev pub held : {n : ℕ} → Line n → List ℕ
-held l = l.bytes.items
+held l = take l.len l.bytes
 
 -- the first 81 bytes of a line are answered as the whole line is
 abbrev pub CutIsEnough : Type 0

@@ -24,7 +24,14 @@ pub fn has_field(line: &[u8], place: usize) -> bool
 pub fn has_fields(line: &[u8], count: usize) -> bool
     ensures { result ≡ (length (fields line.now) == count) }
 {
-    count_fields(line) == count
+    // One more shows that there are more, so no byte behind that is looked at.
+    let most = count.saturating_add(1);
+    let found = line
+        .split(|byte| *byte == b' ')
+        .filter(|part| !part.is_empty())
+        .take(most)
+        .count();
+    found == count
 }
 
 // How many fields the line has.
@@ -32,7 +39,7 @@ pub fn count_fields(line: &[u8]) -> usize
     ensures { result ≡ length (fields line.now) }
 {
     line.split(|byte| *byte == b' ')
-        .filter(|part| !part.is_empty())
+        .filter(|field| !field.is_empty())
         .count()
 }
 

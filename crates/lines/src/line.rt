@@ -1,9 +1,12 @@
 // A line that is being read, in memory that is fixed: its first N bytes. With one more than a line may have, one that is too long shows.
-use arrayvec::ArrayVec;
+ghost use Rattle.std.specs.Prelude.{◌≤◌};
 
-#[derive(Drop)]
+// An array and a length, since a line is `Copy` and no `ArrayVec` is.
+#[derive(Clone, Copy)]
 pub struct Line<const N: usize> {
-    bytes: ArrayVec<u8, N>,
+    bytes: [u8; N],
+    len: usize,
+    ghost within: { len ≤ N },
 }
 
 impl<const N: usize> Line<N> {
@@ -14,7 +17,8 @@ impl<const N: usize> Line<N> {
         ensures { held result ≡ [] }
     {
         Line {
-            bytes: ArrayVec::new(),
+            bytes: [0; N],
+            len: 0,
         }
     }
 
@@ -22,7 +26,7 @@ impl<const N: usize> Line<N> {
     pub fn text(&self) -> &[u8]
         ensures { result.now ≡ held self.now }
     {
-        self.bytes.as_slice()
+        &self.bytes[..self.len]
     }
 
     // Takes the next byte, and answers whether it ends the line. What a line has beyond N bytes is let go.
@@ -37,12 +41,20 @@ impl<const N: usize> Line<N> {
         false
     }
 
+    // Begins the next line.
+    pub fn clear(&mut self)
+        ensures { held self.new ≡ [] }
+    {
+        self.len = 0;
+    }
+
     // One byte more, while fewer than N are kept.
     fn push(&mut self, byte: u8)
         ensures { held self.new ≡ take N (held self.old ++ (byte ∷ [])) }
     {
-        if !self.bytes.is_full() {
-            self.bytes.push(byte);
+        if self.len < N {
+            self.bytes[self.len] = byte;
+            self.len += 1;
         }
     }
 }

@@ -1,5 +1,6 @@
 // An input that is read in chunks and given out line by line. std's buffered reader would need a heap.
-ghost use Rattle.std.specs.Prelude.{◌≡◌, [], IfOk, IfNone};
+ghost use Rattle.std.specs.Prelude.{◌≡◌, false, [], IfOk, IfNone};
+ghost use Rattle.lines.specs.Held.{held};
 ghost use Rattle.lines.specs.Reading.{left, Told};
 
 use crate::chunk::Chunk;
@@ -29,14 +30,21 @@ impl<I: Read> Reader<I> {
     pub fn next_line<const N: usize>(&mut self) -> io::Result<Option<Line<N>>>
         ensures { IfOk result (λ line. IfNone line (left self.new ≡ [])) }
     {
-        if !self.more()? {
+        let mut line = Line::new();
+        if !self.read_line(&mut line)? {
             return Ok(None);
         }
-        Ok(Some(self.read_line()?))
+        Ok(Some(line))
     }
 
-    fn read_line<const N: usize>(&mut self) -> io::Result<Line<N>> {
-        let mut line = Line::new();
+    // The same into a line that is lent, whatever it held: a long one is then neither filled with zeros nor moved. Answers whether there was a line.
+    pub fn read_line<const N: usize>(&mut self, line: &mut Line<N>) -> io::Result<bool>
+        ensures { IfOk result (λ found. found ≡ false → (left self.new ≡ []) × (held line.new ≡ [])) }
+    {
+        line.clear();
+        if !self.more()? {
+            return Ok(false);
+        }
         // An input of unknown bytes has no measure, so the loop is counted.
         for _ in 0..u64::MAX {
             self.fill()?;
@@ -47,7 +55,7 @@ impl<I: Read> Reader<I> {
                 break;
             }
         }
-        Ok(line)
+        Ok(true)
     }
 
     // Whether the input has another byte.

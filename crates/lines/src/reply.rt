@@ -21,7 +21,7 @@ pub fn check_room(out: &[u8]) -> Result<(), LineFault>
 }
 
 // Reply lines, at most N bytes.
-#[derive(Drop)]
+#[derive(Clone, Copy)]
 pub struct Reply<const N: usize> {
     text: ArrayString<N>,
 }
