@@ -1,7 +1,8 @@
 -- Records read by number, one on, and rows picked along a chain. Assumes nothing.
-use Rattle.std.proofs.Common.{◌≡◌, ℕ, suc, ◌+◌, ◌-◌, ◌<◌, ◌≤◌, true, false, List, [], ◌∷◌, ◌++◌, map, length, get_or, take, Some, None, refl, ⊎_elim, arith, length-take}
-use Rattle.std.proofs.lemmas.List.{map_more, map_push, get_or_append_left, get_or_push}
+use Rattle.std.proofs.Common.{◌≡◌, ℕ, suc, ◌+◌, ◌-◌, ◌<◌, ◌≤◌, true, false, List, [], ◌∷◌, ◌++◌, map, length, get_or, take, Some, None, refl, sym, ap, ◌∙◌, ⊎_elim, arith, length-take}
+use Rattle.std.proofs.lemmas.List.{map_more, map_push, get_or_append_left, get_or_push, get_or_read}
 use Rattle.std.proofs.lemmas.Bool.{cases_lt}
+use Rattle.std.proofs.ByRecursion.{All-get_or}
 use Rattle.model.specs.declared.row.Row.{Row}
 use Rattle.processor.specs.declared.few.Few.{Few}
 use Rattle.processor.specs.Few.{held}
@@ -9,7 +10,7 @@ use Rattle.store.specs.declared.entry.Entry.{Entry}
 use Rattle.store.specs.declared.fault.BufferRule.{BufferRule}
 use Rattle.store.specs.Fault.{fault}
 use Rattle.store.specs.Record.{entry, bad_entry}
-use Rattle.store.specs.Records.{record_fault, picked}
+use Rattle.store.specs.Records.{record_fault, picked, Numbered}
 
 pub record_suc :
     (says : ℕ → Entry) (left number : ℕ) → bad_entry (says number) ≡ false →
@@ -62,3 +63,17 @@ picks_more rows chains i chain before after new h is here pushed so_far d =
 
 pub length_held : {X : Type 0} {n : ℕ} (l : Few X n) → length (held l) ≤ n
 length_held l = omega (arith, length-take l.len l.items)
+
+-- the number at a place of a chain
+pub numbered_at : (r : ℕ) (numbers : List ℕ) (i : ℕ) → i < length numbers → Numbered r numbers → (1 ≤ get_or numbers i 0) × (get_or numbers i 0 ≤ r)
+numbered_at r numbers i h all = All-get_or (λ n. (1 ≤ n) × (n ≤ r)) numbers i 0 h all
+
+-- one more row that was picked along a chain
+pub pick_more :
+    (rows : List Row) (numbers : List ℕ) (i : ℕ) (row : Row) (before after : List Row) → i < length numbers →
+    get_or numbers i 0 - 1 < length rows → row ≡ get_or rows (get_or numbers i 0 - 1) row → after ≡ before ++ (row ∷ []) →
+    ((d : Row) → before ≡ picked rows d (take i numbers)) → (d : Row) → after ≡ picked rows d (take (i + 1) numbers)
+pick_more rows numbers i row before after h within is pushed so_far d =
+    pushed ∙ (ap (λ l. l ++ (row ∷ [])) (so_far d)
+    ∙ (ap (λ x. picked rows d (take i numbers) ++ (x ∷ [])) (get_or_read rows (get_or numbers i 0 - 1) row within is d)
+    ∙ sym (map_more (λ n. get_or rows (n - 1) d) numbers i 0 h)))

@@ -2,9 +2,11 @@ pub mod Drops
 pub mod Buffers
 pub mod Images
 pub mod Saves
+pub mod Flags
 pub mod Walks
 pub mod ByNumber
 pub mod Pieces
+pub mod Fills
 pub mod Reaches
 pub mod Unpacks
 pub mod Loads

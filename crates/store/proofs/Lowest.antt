@@ -15,7 +15,7 @@ use Rattle.store.specs.Judged.{judge_fault}
 use Rattle.store.specs.Keys.{bad_key, keys_fault, lower, lowest_in, lowest_of}
 use Rattle.std.specs.List.{fold, reduce}
 use Rattle.std.proofs.lemmas.Bool.Decides.{nat_tests}
-use Rattle.store.specs.Gathered.{lowest_key}
+use Rattle.store.specs.Gathered.{lower_key, lowest_key}
 use Rattle.store.specs.Loading.{all_of, KeyOf, LowestKey, LowestRecord, LowestJudged}
 
 -- a test that tells a refusal, or passes
@@ -322,6 +322,33 @@ pub key_is_lowest :
     (plan : List (List Row)) (key : Option ℕ) → AllByRecursion (λ row. 1 ≤ row.key) (all_of plan) → key ≡ lowest_key plan →
     IsLowest (lowest_of (bad_key plan) 0 plan) key
 key_is_lowest plan key keyed is = rw (is, lowest_flat (bad_key plan) 0 plan) (first_low (bad_key plan) (all_of plan) keyed)
+
+-- the lower of the lowest so far and each key, as the least of the bad keys
+fold_lower :
+    (bad : ℕ → Bool) (low : ℕ) (keys : List ℕ) → fold (lower_key bad) (Some low) keys ≡ Some (fold min low (filter bad keys))
+fold_lower bad low [] = refl
+fold_lower bad low (key ∷ keys) =
+    let rest = filter bad keys in
+    elim (bad key) as (λ b. fold (lower_key bad) (cond (ltb key low && b) (Some key) (Some low)) keys ≡ Some (fold min low (cond b (key ∷ rest) rest))) [
+      | true ↦ rw (lower_min low key) (fold_lower bad (min low key) keys)
+      | false ↦ rw (and_no (ltb key low)) (fold_lower bad low keys)
+    ]
+  where
+    and_no : (b : Bool) → (b && false) ≡ false
+    and_no true = refl
+    and_no false = refl
+
+    lower_min : (low key : ℕ) → cond (ltb key low && true) (Some key) (Some low) ≡ Some (min low key)
+    lower_min low key = grind (arith, nat_tests)
+
+pub lower_least : (bad : ℕ → Bool) (keys : List ℕ) → fold (lower_key bad) None keys ≡ reduce min (filter bad keys)
+lower_least bad [] = refl
+lower_least bad (key ∷ keys) =
+    let rest = filter bad keys in
+    elim (bad key) as (λ b. fold (lower_key bad) (cond b (Some key) None) keys ≡ reduce min (cond b (key ∷ rest) rest)) [
+      | true ↦ fold_lower bad key keys
+      | false ↦ lower_least bad keys
+    ]
 
 -- what the lowest key and the number of keys refuse
 pub key_told : (v c key : ℕ) → v ≡ key → 1 ≤ key → keys_fault v c ≡ Some (fault BufferRule.Key key)

@@ -1,6 +1,7 @@
 -- The entries of an image from its header, chains and records. Assumes nothing.
-use Rattle.std.proofs.Common.{◌≡◌, ℕ, ◌+◌, ◌<◌, List, map, get_or, None, Ok, sym, ap, ◌∙◌}
+use Rattle.std.proofs.Common.{◌≡◌, ℕ, ◌+◌, ◌<◌, List, map, get_or, None, Ok, Err, sym, ap, ◌∙◌}
 use Rattle.model.specs.declared.row.Row.{Row}
+use Rattle.store.specs.declared.fault.BufferFault.{BufferFault}
 use Rattle.store.specs.declared.image.Image.{Image}
 use Rattle.store.specs.Header.{header_fault, record_count}
 use Rattle.store.specs.Read.{Headed}
@@ -15,6 +16,12 @@ pub entries_along :
     entries m bytes ≡ along (entry_at m bytes) (record_count bytes) (chains (head_at bytes) (next_at m bytes) m (record_count bytes))
 entries_along m bytes none =
     ap (λ h. unless h (along (entry_at m bytes) (record_count bytes) (chains (head_at bytes) (next_at m bytes) m (record_count bytes)))) none
+
+pub entries_refused :
+    (m : ℕ) (bytes : List ℕ) → header_fault m bytes ≡ None → (m' r : ℕ) (f : BufferFault) → m' ≡ m → r ≡ record_count bytes →
+    chains (head_at bytes) (next_at m' bytes) m' r ≡ Err f → entries m bytes ≡ Err f
+entries_refused m bytes none m' r f is_m is-r refused =
+    let here = rw (is_m, is-r) at refused in entries_along m bytes none ∙ ap (along (entry_at m bytes) (record_count bytes)) here
 
 -- the same of an image that was read
 module _ (m : ℕ) (bytes : List ℕ) (i : Image) (is : Headed m bytes (Ok i)) where

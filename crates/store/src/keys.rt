@@ -4,7 +4,7 @@ ghost use Rattle.processor.specs.Few.{held};
 ghost use Rattle.store.specs.InPlace.{all_held};
 ghost use Rattle.store.specs.Answers.{answered};
 ghost use Rattle.store.specs.Keys.{of_key, piece, alike, times, once_each, stretch, one_reservation, bad_key, firsts, keys, key_fault};
-ghost use Rattle.store.specs.Gathered.{OnlyOne, Gathered, lowest_key};
+ghost use Rattle.store.specs.Gathered.{OnlyOne, Gathered, lower_key, lowest_key};
 ghost use Rattle.store.specs.Loading.{all_of};
 ghost use Rattle.std.specs.List.{AllByRecursion};
 
@@ -43,8 +43,18 @@ impl Plan {
             .iter()
             .flat_map(|rows| rows.as_slice())
             .map(|row| row.key)
-            .filter(|key| self.is_bad(*key))
-            .min()
+            .fold(None, |lowest, key| self.lower_bad(lowest, key))
+    }
+
+    // The lower of the lowest bad key so far and a key, if that is bad. To ask goes over all rows, so a key is asked only where it would be the lowest.
+    fn lower_bad(&self, lowest: Option<u16>, key: u16) -> Option<u16>
+        ensures { result ≡ lower_key (bad_key (all_held self.now)) lowest key }
+    {
+        if lowest.map_or(true, |low| key < low) && self.is_bad(key) {
+            Some(key)
+        } else {
+            lowest
+        }
     }
 
     // How many keys there are.
