@@ -1,5 +1,5 @@
--- The table of slacks, row by row. Assumes nothing.
-use Rattle.std.proofs.Common.{◌≡◌, ℕ, suc, ◌+◌, ◌<◌, List, [], ◌∷◌, length, get_or, set, refl, sym, ap, ◌∙◌, inl, inr, arith}
+-- The table of slacks, place by place and row by row. Assumes nothing.
+use Rattle.std.proofs.Common.{◌≡◌, ℕ, suc, ◌+◌, ◌<◌, ◌≢◌, List, [], ◌∷◌, length, get_or, set, refl, sym, ap, ◌∙◌, inl, inr, arith, below_more}
 use Rattle.std.proofs.lemmas.List.{get_or_default, get_or-set_same, get_or-set_other}
 use Rattle.std.proofs.lemmas.Bool.{cases_eq}
 use Rattle.model.specs.declared.timing.Timing.{Timing}
@@ -7,6 +7,15 @@ use Rattle.judges.specs.Approximate.{point}
 use Rattle.judges.specs.Allowance.{slack}
 use Rattle.judges.specs.Table.{Slacks, Table}
 
+-- one more place of a row
+pub place_filled : (s n : ℕ) (l : List Timing) (x : Timing) (k : ℕ) (row : List ℕ) (v p : ℕ)
+    → Slacks s n l x k row → k < length row → p ≡ point x k → v ≡ slack s n l p → Slacks s n l x (k + 1) (set row k v)
+place_filled s n l x k row v p before room at is =
+    below_more (λ j. get_or (set row k v) j 0 ≡ slack s n l (point x j)) k
+    (λ j h. let other : j ≢ k = omega arith in get_or-set_other row k j v 0 other ∙ before j h)
+    (get_or-set_same row k v 0 room ∙ is ∙ ap (slack s n l) at)
+
+-- one more row of the table
 pub row_filled : (s n : ℕ) (l : List Timing) (i : ℕ) (x : Timing) (rows : List (List ℕ)) (row : List ℕ)
     → Table s n l i rows → i < length rows → x ≡ get_or l i x → i < length l → Slacks s n l x (suc n) row
     → Table s n l (i + 1) (set rows i row)

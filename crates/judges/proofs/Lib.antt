@@ -1,5 +1,5 @@
 -- lemmas on the definitions
-pub mod Sums
+pub mod Walk
 pub mod Tested
 pub mod AllowanceWalk
 pub mod AllowanceTable

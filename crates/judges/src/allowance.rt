@@ -71,7 +71,7 @@ impl Tail<'_> {
     fn spare(&self) -> u32
         ensures { result ≡ spare_budget scale self.now.curve.list.now self.now.period }
     {
-        (SCALE.saturating_sub(self.curve.shares()) * self.period as u64 / SCALE) as u32
+        (SCALE.saturating_sub(self.curve.sum) * self.period as u64 / SCALE) as u32
     }
 
     // What is left at the ends of the tail's first periods, shared by its instances so far, and at most `room`.

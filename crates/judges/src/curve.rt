@@ -20,9 +20,12 @@ pub(crate) struct Curve<'a> {
     pub(crate) steps: u8,
     // The slope of each timing's line is its share: an array for the most timings, since no call takes memory.
     slopes: [u32; 32],
+    // The sum of the shares.
+    pub(crate) sum: u64,
     ghost few: { length list.now ≤ 32 },
     ghost stepped: { steps ≤ 9 },
     ghost paired: { take (length list.now) slopes ≡ map (share scale) list.now },
+    ghost summed: { sum ≡ shares scale list.now },
 }
 
 impl<'a> Curve<'a> {
@@ -32,22 +35,20 @@ impl<'a> Curve<'a> {
         ensures list { result.list.now ≡ list.now }
         ensures steps { result.steps ≡ steps }
     {
+        let mut slopes = [0; 32];
+        let mut sum = 0;
+        // By index: `from_fn` fills all 32 places, and through `iter_mut().zip(..)` no proof knows what is written.
+        for (i, x) in list.iter().enumerate() {
+            let share = x.share();
+            slopes[i] = share as u32;
+            sum += share;
+        }
         Curve {
             list,
             steps,
-            slopes: slopes(list),
+            slopes,
+            sum,
         }
-    }
-
-    // The sum of the shares.
-    #[tactic(auto, using(crate::proofs::Sums::shares_summed))]
-    pub(crate) fn shares(&self) -> u64
-        ensures { result ≡ shares scale self.now.list.now }
-    {
-        self.slopes[..self.list.len()]
-            .iter()
-            .map(|share| u64::from(*share))
-            .sum()
     }
 
     // The demand within t ticks.
@@ -108,19 +109,6 @@ impl<'a> Curve<'a> {
             0
         }
     }
-}
-
-// The share of each timing, in the order of the list.
-fn slopes(list: &[Timing]) -> [u32; 32]
-    requires { length list.now ≤ 32 }
-    ensures { take (length list.now) result ≡ map (share scale) list.now }
-{
-    let mut slopes = [0; 32];
-    // By index: `from_fn` fills all 32 places, 40 ns more where two rows take 100, and through `iter_mut().zip(..)` no proof knows what is written.
-    for (i, x) in list.iter().enumerate() {
-        slopes[i] = x.share() as u32;
-    }
-    slopes
 }
 
 // The demand of one timing: exact before check-point `steps`, from there on the line.

@@ -27,6 +27,6 @@ impl Judge for Demand {
             return false;
         }
         let curve = Curve::new(list, self.steps);
-        curve.shares() <= SCALE && curve.fits_rows(list)
+        curve.sum <= SCALE && curve.fits_rows(list)
     }
 }
