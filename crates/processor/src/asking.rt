@@ -13,7 +13,6 @@ use model::judge::{Judge, SizingJudge};
 use model::share::SCALE;
 use model::timing::Timing;
 use placement::candidate::Candidate;
-use std::iter::once;
 
 pub const MOST_ROWS: usize = 32;
 
@@ -77,10 +76,9 @@ impl Processor {
     fn asked(&self, timing: Timing) -> Timings
         ensures { held result ≡ timings (rows_of self.now) ++ (timing ∷ []) }
     {
-        Few::collected(
-            timing,
-            self.rows.iter().map(|row| row.timing).chain(once(timing)),
-        )
+        let mut list = self.timings();
+        list.push(timing);
+        list
     }
 
     // The timings of its rows.

@@ -1,16 +1,17 @@
 // Which reservations have rows here.
 ghost use Rattle.std.specs.Prelude.{◌≡◌, ◌≤◌};
 ghost use Rattle.processor.specs.Rows.{rows_of};
-ghost use Rattle.processor.specs.Keys.{has_key, has_tail, owners};
+ghost use Rattle.processor.specs.Keys.{is_of, has_key, has_tail, owners};
 
 use crate::rows::Processor;
+use model::row::Row;
 
 impl Processor {
     // Whether a row of this reservation stands here.
     pub fn holds(&self, key: u16) -> bool
         ensures { result ≡ has_key key (rows_of self.now) }
     {
-        self.rows.iter().any(|row| row.key == key)
+        self.rows.iter().any(|row| is_of(row, key))
     }
 
     // Whether any tail stands here.
@@ -27,4 +28,11 @@ impl Processor {
     {
         self.rows.iter().filter(|row| !row.kind.is_tail()).count()
     }
+}
+
+// Whether a row is of this reservation.
+pub(crate) fn is_of(row: &Row, key: u16) -> bool
+    ensures { result ≡ is_of key row.now }
+{
+    row.key == key
 }

@@ -7,14 +7,14 @@ ghost use Rattle.processor.specs.Rows.{rows_of};
 ghost use Rattle.processor.specs.Few.{held};
 ghost use Rattle.processor.specs.Gathering.{others, tail_among, heavier, heaviest, candidate, sum_on};
 
-use crate::asking::Timings;
+use crate::asking::{Timings, UNUSED};
 use crate::few::Few;
+use crate::keys::is_of;
 use crate::rows::Processor;
 use model::judge::Judge;
 use model::row::{Kind, Row};
 use model::timing::Timing;
 use std::cmp::Reverse;
-use std::iter::once;
 
 impl Processor {
     // What is to be gathered here: the reservation whose tail stands here, else that of the heaviest head.
@@ -66,7 +66,7 @@ impl Processor {
         ensures value { result ≡ sum_on of key (rows_of self.now) }
         ensures bound { result ≤ 3200000 }
     {
-        let own = self.rows.iter().filter(|row| row.key == key);
+        let own = self.rows.iter().filter(|row| is_of(row, key));
         own.map(|row| measure(row)).sum()
     }
 
@@ -81,15 +81,17 @@ impl Processor {
     fn asked_instead(&self, key: u16, timing: Timing) -> Timings
         ensures { held result ≡ timings (others key (rows_of self.now)) ++ (timing ∷ []) }
     {
-        let others = self.rows.iter().filter(|row| row.key != key);
-        Few::collected(timing, others.map(|row| row.timing).chain(once(timing)))
+        let others = self.rows.iter().filter(|row| !is_of(row, key));
+        let mut list = Few::collected(UNUSED, others.map(|row| row.timing));
+        list.push(timing);
+        list
     }
 
     // Takes a reservation's rows away; the others keep their order.
     pub fn remove(&mut self, key: u16)
         ensures { rows_of self.new ≡ others key (rows_of self.old) }
     {
-        self.rows.retain(|row| row.key != key);
+        self.rows.retain(|row| !is_of(row, key));
     }
 }
 
