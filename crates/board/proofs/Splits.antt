@@ -1,11 +1,11 @@
 -- Splitting, tail by tail, and the rows that come of it. Assumes nothing.
-use Rattle.std.proofs.Common.{◌≡◌, ℕ, suc, ◌+◌, ◌-◌, ◌<◌, ◌≤◌, List, [], ◌∷◌, ◌++◌, reverse, length, get_or, drop, Some, None, Option, sym, ap, ◌∙◌, arith}
-use Rattle.std.proofs.lemmas.List.{append_assoc, append-nil, at_drop_all}
+use Rattle.std.proofs.Common.{◌≡◌, ℕ, suc, ◌+◌, ◌-◌, ◌<◌, ◌≤◌, List, [], ◌∷◌, ◌++◌, reverse, length, drop, Some, None, Option, sym, ap, ◌∙◌, arith}
+use Rattle.std.proofs.lemmas.List.{append_assoc, append-nil, at_drop_all, length-reverse, get_or-reverse}
 use Rattle.model.specs.declared.timing.Timing.{Timing}
 use Rattle.model.specs.declared.row.Kind.{Kind}
 use Rattle.board.specs.declared.cut.Cut.{Cut}
 use Rattle.board.specs.declared.admission.Placed.{Placed}
-use Rattle.board.specs.Split.{placed, tails, split_rows, or_more, after_cut, split}
+use Rattle.board.specs.Split.{placed, served, tails, split_rows, or_more, after_cut, split}
 use Rattle.processor.specs.Few.{pushed}
 use Rattle.processor.proofs.Steps.{step}
 
@@ -13,23 +13,24 @@ pub first_of : {A : Type 0} (xs ys : List A) (x : A) → xs ≡ [] → ys ≡ pu
 first_of xs ys x none one = one ∙ ap (λ l. pushed 8 l x) none
 
 pub tails_more :
-    (key : ℕ) (cuts : List Cut) (i : ℕ) (cut : Cut) (rows grown total : List Placed) → i < length (reverse cuts) →
-    cut ≡ get_or (reverse cuts) i cut →
+    (key : ℕ) (cuts : List Cut) (i : ℕ) (cut : Cut) (rows grown total : List Placed) → i < length cuts →
+    cut ≡ served cuts i cut →
     grown ≡ rows ++ (placed key cut.processor (Kind.Tail (i + 1)) cut.timing ∷ []) →
     rows ++ tails key (i + 1) (drop i (reverse cuts)) ≡ total → grown ++ tails key (i + 1 + 1) (drop (i + 1) (reverse cuts)) ≡ total
 tails_more key cuts i cut rows grown total h here more so =
     let rest = tails key (i + 1 + 1) (drop (i + 1) (reverse cuts)) in
     let row = placed key cut.processor (Kind.Tail (i + 1)) cut.timing in
     ap (λ l. l ++ rest) more ∙ append_assoc rows (row ∷ []) rest
-    ∙ ap (λ l. rows ++ l) (sym (step (tails key (i + 1)) (reverse cuts) i cut h here))
+    ∙ ap (λ l. rows ++ l) (sym (step (tails key (i + 1)) (reverse cuts) i cut (omega (arith, length-reverse cuts))
+    (here ∙ sym (get_or-reverse cuts i cut h))))
     ∙ so
 
 pub tails_all :
-    (key : ℕ) (cuts : List Cut) (i : ℕ) (rows total : List Placed) → length (reverse cuts) ≤ i →
+    (key : ℕ) (cuts : List Cut) (i : ℕ) (rows total : List Placed) → length cuts ≤ i →
     rows ++ tails key (i + 1) (drop i (reverse cuts)) ≡ total → rows ≡ total
 tails_all key cuts i rows total h so =
     sym (append-nil rows)
-    ∙ ap (λ l. rows ++ l) (sym (at_drop_all (tails key (i + 1)) (reverse cuts) i h)) ∙ so
+    ∙ ap (λ l. rows ++ l) (sym (at_drop_all (tails key (i + 1)) (reverse cuts) i (omega (arith, length-reverse cuts)))) ∙ so
 
 module _ (key : ℕ) (place : List Cut → Timing → Option ℕ) (next : List Cut → Timing → Option (Cut × Timing))
     (m k : ℕ) (h : k < m) (cuts : List Cut) (x : Timing) where

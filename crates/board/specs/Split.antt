@@ -1,5 +1,5 @@
 -- Splitting: tails are set until what is left finds a place as the head. Assumes nothing.
-use Rattle.std.specs.Prelude.{ℕ, zero, suc, ◌+◌, ◌-◌, Bool, List, [], ◌∷◌, ◌++◌, reverse, length, ℤ, Some, None, Option}
+use Rattle.std.specs.Prelude.{ℕ, zero, suc, ◌+◌, ◌-◌, Bool, List, [], ◌∷◌, ◌++◌, reverse, length, ℤ, Some, None, Option, slice_index_or}
 use Rattle.model.specs.declared.timing.Timing.{Timing}
 use Rattle.model.specs.declared.row.Kind.{Kind}
 use Rattle.model.specs.declared.row.Row.{Row}
@@ -11,6 +11,10 @@ use Rattle.board.specs.Tail.{next_cut}
 -- a row of a reservation on processor p
 abbrev pub placed : ℕ → ℕ → Kind → Timing → Placed
 placed key p kind x = record { processor = p; row = record { key = key; kind = kind; timing = x } }
+
+-- the tail at place i in serving order: the one set last is served first
+abbrev pub served : List Cut → ℕ → Cut → Cut
+served cuts i d = slice_index_or cuts (length cuts - 1 - i) d
 
 -- the rows of tails in serving order, numbered from a part on
 abbrev pub tails : ℕ → ℕ → List Cut → List Placed

@@ -27,9 +27,9 @@ impl<J: SizingJudge, P: Placement> Board<J, P> {
         ensures rule { self.new.rule ≡ self.old.rule }
     {
         let newcomer = self.plan.request(wanted)?;
-        let admission = self
-            .decide(wanted.key as u16, newcomer)
-            .ok_or(RequestFault::NoPlace)?;
+        let Some(admission) = self.decide(wanted.key as u16, newcomer) else {
+            return Err(RequestFault::NoPlace);
+        };
         self.plan.write(&admission);
         Ok(admission)
     }

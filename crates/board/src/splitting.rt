@@ -1,8 +1,8 @@
 // Splitting a newcomer that nobody takes whole. The split is decided as a value: no row is written here.
-ghost use Rattle.std.specs.Prelude.{◌≡◌, ◌≤◌, length};
+ghost use Rattle.std.specs.Prelude.{◌≡◌, ◌<◌, ◌≤◌, length};
 ghost use Rattle.model.specs.declared.row.Kind.{Kind};
 ghost use Rattle.board.specs.Plan.{plan};
-ghost use Rattle.board.specs.Split.{placed, split_up, split_rows};
+ghost use Rattle.board.specs.Split.{placed, served, split_up, split_rows};
 ghost use Rattle.board.specs.Admission.{made_rows, rows_found};
 
 use crate::admission::{Admission, Placed};
@@ -51,10 +51,18 @@ fn split_rows(key: u16, processor: u8, head: Timing, cuts: &[Cut]) -> Admission
     };
     let mut placed = Few::new(first);
     placed.push(first);
-    for (i, cut) in cuts.iter().rev().enumerate() {
-        placed.push(tail_row(key, i as u8 + 1, *cut));
+    for i in 0..cuts.len() {
+        placed.push(tail_row(key, i as u8 + 1, served(cuts, i)));
     }
     Admission { placed }
+}
+
+// The tail at a place in serving order, counted from 0: the one set last is served first.
+fn served(cuts: &[Cut], place: usize) -> Cut
+    requires { place < length cuts.now }
+    ensures { result ≡ served cuts.now place result }
+{
+    cuts[cuts.len() - 1 - place]
 }
 
 fn tail_row(key: u16, part: u8, cut: Cut) -> Placed
