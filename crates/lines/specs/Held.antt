@@ -7,6 +7,10 @@ use Rattle.lines.specs.Setups.{setup_of}
 abbrev pub held : {n : ℕ} → Line n → List ℕ
 held l = take l.len l.bytes
 
--- the first 81 bytes of a line are answered as the whole line is
+-- the first k bytes of a line are answered as the whole line is
+abbrev pub EnoughKept : ℕ → Type 0
+EnoughKept k = (l : List ℕ) → (blank (take k l) ≡ blank l) × (asked (take k l) ≡ asked l) × (setup_of (take k l) ≡ setup_of l)
+
+-- the first 81 bytes are
 abbrev pub CutIsEnough : Type 0
-CutIsEnough = (l : List ℕ) → (blank (take 81 l) ≡ blank l) × (asked (take 81 l) ≡ asked l) × (setup_of (take 81 l) ≡ setup_of l)
+CutIsEnough = EnoughKept 81

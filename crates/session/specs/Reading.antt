@@ -2,7 +2,8 @@
 use Rattle.std.specs.Prelude.{◌≡◌, ℕ, Bool, true, false, ◌&&◌, List, [], Ok, Err, codes, Result}
 use Rattle.std.specs.Str.{bytes_eq}
 use Rattle.session.specs.declared.reader.Next.{Next}
-use Rattle.lines.specs.Held.{held}
+use Rattle.lines.specs.declared.line.Line.{Line}
+use Rattle.lines.specs.Held.{held, EnoughKept}
 
 -- the line `----` ends a session where sessions are marked
 abbrev pub is_mark : Bool → List ℕ → Bool
@@ -14,3 +15,13 @@ NextLine marked left (Ok (Next.Line line)) = is_mark marked (held line) ≡ fals
 NextLine marked left (Ok (Next.Mark line)) = is_mark marked (held line) ≡ true
 NextLine marked left (Ok Next.End) = left ≡ []
 NextLine marked left (Err e) = Unit {0}
+
+-- as many bytes of a line are kept as it is answered from as from all of them
+unfoldable pub IsEnough : {n : ℕ} → Line n → Type 0
+IsEnough {n} line = EnoughKept n
+
+-- so much is kept of a line that what is kept is answered as the whole line is
+abbrev pub KeptEnough : Next → Type 0
+KeptEnough (Next.Line line) = IsEnough line
+KeptEnough (Next.Mark line) = IsEnough line
+KeptEnough Next.End = Unit {0}

@@ -1,10 +1,10 @@
 // A session over an input: the first line sets a board up, which is kept until the session ends. What is read and printed no contract says; what
 // is answered is that of `first_line` and `answer`. An input of unknown bytes has no measure, so the loops over its lines are counted.
 use crate::answer::answer;
-use crate::first::{First, Start};
+use crate::first::{First, Start, first_line};
 use crate::reader::{Next, Reader};
 use lines::choice::{NamedJudge, Work};
-use lines::reply::{REPLY_ROOM, Reply};
+use lines::reply::REPLY_ROOM;
 use model::judge::SizingJudge;
 use placement::rule::Placement;
 use std::io;
@@ -43,15 +43,19 @@ pub enum Ended {
 
 // Waits for the first line, and keeps the board that it asks for.
 pub fn run<I: Read>(rt: &HostRuntime, reader: &mut Reader<I>) -> io::Result<Ended> {
+    // As a host lends one.
+    let mut reply = [0u8; REPLY_ROOM];
     for _ in 0..u64::MAX {
         let Next::Line(line) = reader.next_line()? else {
             break;
         };
-        let first = First::read(line.text());
+        let Ok((first, end)) = first_line(line.text(), &mut reply) else {
+            unreachable!()
+        };
         match first {
             First::Wait => {}
             First::Refused(_) => {
-                rt.write_all(first.reply().text())?;
+                rt.write_all(&reply[0..end])?;
                 return Ok(Ended::Refused);
             }
             First::Board(start) => {
@@ -63,7 +67,7 @@ pub fn run<I: Read>(rt: &HostRuntime, reader: &mut Reader<I>) -> io::Result<Ende
                     rt,
                     reader,
                     start,
-                    said: first.reply(),
+                    said: &reply[0..end],
                 };
                 judge.run_by(start.rule, session)?;
                 break;
@@ -88,7 +92,7 @@ struct Session<'a, I> {
     rt: &'a HostRuntime,
     reader: &'a mut Reader<I>,
     start: Start,
-    said: Reply<REPLY_ROOM>,
+    said: &'a [u8],
 }
 
 impl<I: Read> Work for Session<'_, I> {
@@ -105,8 +109,7 @@ impl<I: Read> Work for Session<'_, I> {
             said,
         } = self;
         let mut board = start.sizes.board(rt.alloc(), judge, rule)?;
-        rt.write_all(said.text())?;
-        // As a host lends one.
+        rt.write_all(said)?;
         let mut reply = [0u8; REPLY_ROOM];
         for _ in 0..u64::MAX {
             let Next::Line(line) = reader.next_line()? else {

@@ -1,5 +1,5 @@
 // The lines of sessions: of one that goes on to the input's end, or of many, each ended by the line `----`.
-ghost use Rattle.std.specs.Prelude.{◌≡◌, []};
+ghost use Rattle.std.specs.Prelude.{◌≡◌, [], IfOk};
 ghost use Rattle.lines.specs.Reading.{left, Told};
 
 use lines::command::LONGEST_LINE;
@@ -30,7 +30,7 @@ pub enum Next {
 }
 
 impl<I: Read> Reader<I> {
-    ghost use Rattle.session.specs.Reading.{NextLine};
+    ghost use Rattle.session.specs.Reading.{NextLine, KeptEnough};
 
     pub fn new(input: I, marked: bool) -> Reader<I>
         ensures lines { left result.lines ≡ [] }
@@ -43,8 +43,10 @@ impl<I: Read> Reader<I> {
     }
 
     // Reads the next line of the session, or what ends it. The last line need not end with a newline.
+    #[tactic(auto, using(crate::proofs::Kept::line_enough))]
     pub fn next_line(&mut self) -> io::Result<Next>
         ensures line { NextLine self.old.marked (left self.new.lines) result }
+        ensures enough { IfOk result KeptEnough }
         ensures marked { self.new.marked ≡ self.old.marked }
     {
         let Some(line) = self.lines.next_line()? else {

@@ -1,7 +1,7 @@
 // Rows as reply lines, one after the other.
 ghost use Rattle.std.specs.Prelude.{◌≡◌, ◌+◌, ◌*◌, ◌≤◌, ◌++◌, map, length};
 ghost use Rattle.processor.specs.Rows.{rows_of};
-ghost use Rattle.lines.specs.Replies.{text_of};
+ghost use Rattle.lines.specs.Replies.{Wrote, text_of, row_line};
 ghost use Rattle.session.specs.Rows.{rows_text, gathered_line, gathered_text};
 
 use board::admission::Placed;
@@ -46,4 +46,39 @@ fn add_gathered_row<const N: usize>(
     if let Some(row) = gathered_row(key, processor.rows.as_slice()) {
         reply.row(number, row);
     }
+}
+
+// The same lines over a buffer from a place on, and the place after them: of however many rows.
+pub fn put_rows(out: &mut [u8], at: usize, rows: &[Placed]) -> usize
+    requires { at + 30 * length rows.now ≤ length out.old }
+    ensures wrote { Wrote out.old at (rows_text rows.now) out.new result }
+    ensures short { result ≤ at + 30 * length rows.now }
+{
+    let mut end = at;
+    for row in rows {
+        end = put_row(out, end, *row);
+    }
+    end
+}
+
+// What was gathered, over a buffer from a place on, and the place after it.
+pub fn put_gathered(out: &mut [u8], at: usize, keys: &[u16], processors: &[Processor]) -> usize
+    requires room { at + 240 ≤ length out.old }
+    requires eight { length keys.now ≤ 8 }
+    ensures wrote { Wrote out.old at (gathered_text 1 keys.now (map rows_of processors.now)) out.new result }
+    ensures short { result ≤ at + 240 }
+{
+    let mut lines: Reply<240> = Reply::new();
+    add_gathered(&mut lines, keys, processors);
+    lines.put(out, at)
+}
+
+fn put_row(out: &mut [u8], at: usize, placed: Placed) -> usize
+    requires { at + 30 ≤ length out.old }
+    ensures wrote { Wrote out.old at (row_line placed.processor placed.row) out.new result }
+    ensures short { result ≤ at + 30 }
+{
+    let mut line: Reply<30> = Reply::new();
+    line.row(placed.processor, placed.row);
+    line.put(out, at)
 }
