@@ -26,24 +26,22 @@ pub fn serve<I: Read + Drop>(rt: &HostRuntime, input: I) -> io::Result<()> {
 
 // Waits for the first line, and keeps the board that it asks for. What follows a refused first line is not read.
 pub fn run<I: Read>(rt: &HostRuntime, reader: &mut Reader<I>) -> io::Result<()> {
+    // One for all lines: it is long, and a new one would be filled with zeros.
+    let mut line = Line::<KEPT>::new();
     // An input of unknown bytes has no measure, so the loop is counted.
     for _ in 0..u64::MAX {
-        let Some(line) = next_line(reader)? else {
+        if !reader.read_line(&mut line)? {
             break;
-        };
+        }
         if is_blank(line.text()) {
             continue;
         }
         return match read_opening(line.text()) {
             Err(fault) => refuse(rt, &fault),
-            Ok(opening) => keep(rt, reader, opening),
+            Ok(opening) => keep(rt, reader, &mut line, opening),
         };
     }
     Ok(())
-}
-
-fn next_line<I: Read>(reader: &mut Reader<I>) -> io::Result<Option<Line<KEPT>>> {
-    reader.next_line()
 }
 
 fn refuse<F: Numbered>(rt: &HostRuntime, fault: &F) -> io::Result<()> {
@@ -51,7 +49,12 @@ fn refuse<F: Numbered>(rt: &HostRuntime, fault: &F) -> io::Result<()> {
     rt.write_all(text.as_bytes())
 }
 
-fn keep<I: Read>(rt: &HostRuntime, reader: &mut Reader<I>, opening: Opening) -> io::Result<()> {
+fn keep<I: Read>(
+    rt: &HostRuntime,
+    reader: &mut Reader<I>,
+    line: &mut Line<KEPT>,
+    opening: Opening,
+) -> io::Result<()> {
     let judge = NamedJudge {
         word: opening.judge,
         demand: opening.demand,
@@ -59,6 +62,7 @@ fn keep<I: Read>(rt: &HostRuntime, reader: &mut Reader<I>, opening: Opening) -> 
     let session = Session {
         rt,
         reader,
+        line,
         processors: opening.processors,
     };
     match opening.rule {
@@ -71,6 +75,7 @@ fn keep<I: Read>(rt: &HostRuntime, reader: &mut Reader<I>, opening: Opening) -> 
 struct Session<'a, I> {
     rt: &'a HostRuntime,
     reader: &'a mut Reader<I>,
+    line: &'a mut Line<KEPT>,
     processors: u32,
 }
 
@@ -84,6 +89,7 @@ impl<I: Read> Work for Session<'_, I> {
         let Session {
             rt,
             reader,
+            line,
             processors,
         } = self;
         let mut board = match Board::new(rt.alloc(), processors, judge, rule) {
@@ -95,9 +101,9 @@ impl<I: Read> Work for Session<'_, I> {
         rt.write_all(said.as_bytes())?;
         // Counted, as above.
         for _ in 0..u64::MAX {
-            let Some(line) = next_line(reader)? else {
+            if !reader.read_line(line)? {
                 break;
-            };
+            }
             let text = answer(rt.alloc(), &mut board, line.text())?;
             rt.write_all(text.as_bytes())?;
         }
