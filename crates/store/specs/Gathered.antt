@@ -7,14 +7,15 @@ use Rattle.store.specs.declared.keys.Twice.{Twice}
 use Rattle.store.specs.Keys.{apart, pieces, bad_key}
 use Rattle.store.specs.Loading.{all_of}
 use Rattle.std.specs.List.{reduce}
+use Rattle.std.specs.Borrow.{Bor}
 
 -- what there is, as a list
-abbrev pub as_list : Option Row → List Row
+abbrev pub as_list : Option (Bor Row) → List Row
 as_list None = []
-as_list (Some row) = row ∷ []
+as_list (Some row) = row.now ∷ []
 
 -- the one row that there may be, if there are no more
-abbrev pub OnlyOne : List Row → Result (Option Row) Twice → Type 0
+abbrev pub OnlyOne : List Row → Result (Option (Bor Row)) Twice → Type 0
 OnlyOne rows (Ok found) = rows ≡ as_list found
 OnlyOne rows (Err e) = nat_le (length rows) 1 ≡ false
 

@@ -5,7 +5,6 @@ ghost use Rattle.store.specs.InPlace.{all_held};
 
 use crate::lists::Lists;
 use processor::few::Few;
-use std::array;
 
 impl<T: Copy> Lists<T> {
     // No lists. The places not in use hold the filler.
@@ -14,7 +13,7 @@ impl<T: Copy> Lists<T> {
         ensures count { result.count ≡ 0 }
     {
         Lists {
-            lists: array::from_fn(|_| Few::new(filler)),
+            lists: [Few::new(filler); 8],
             count: 0,
         }
     }
