@@ -9,8 +9,6 @@ use Rattle.judges.specs.Allowance.{demand_allowance}
 use Rattle.judges.specs.Demand.{demand_yes}
 use Rattle.judges.specs.Setting.{setting_fault}
 use Rattle.judges.specs.declared.demand.Demand.{Demand}
-use Rattle.processor.specs.declared.few.Few.{Few}
-use Rattle.processor.specs.Few.{held}
 use Rattle.exports.specs.Refusal.{refusal_number}
 use Rattle.exports.specs.declared.refusal.Refusal.{Refusal}
 use Rattle.exports.specs.declared.numbers.Numbers.{Numbers}
@@ -39,20 +37,28 @@ rows_fault (x ∷ l) = or_later (numbered request_number (timing_fault x.budget 
 abbrev pub long_fault : List Numbers → Option ℕ
 long_fault rows = cond (nat_lt 32 (length rows)) (Some 51) None
 
+-- the first refusal before any row is read: of the judge's numbers, of the count of rows
+abbrev pub start_fault : ℕ → ℕ → List Numbers → Option ℕ
+start_fault n r rows = or_later (numbered setup_number (setting_fault n r)) (long_fault rows)
+
 -- the first refusal: of the judge's numbers, of the count of rows, of a row
 abbrev pub asked_fault : ℕ → ℕ → List Numbers → Option ℕ
 asked_fault n r rows = or_later (numbered setup_number (setting_fault n r)) (or_later (long_fault rows) (rows_fault rows))
 
--- timings of just these numbers, or the first limit that a row breaks
-abbrev pub Read : List Numbers → Result (Few Timing 32) RequestFault → Type 0
-Read rows (Ok l) = (rows_fault rows ≡ None) × (map numbers (held l) ≡ rows)
-Read rows (Err f) = rows_fault rows ≡ Some (request_number f)
+-- a judge of these numbers, or the first refusal before any row
+abbrev pub Asked : ℕ → ℕ → List Numbers → Result Demand Refusal → Type 0
+Asked n r rows (Ok j) = (start_fault n r rows ≡ None) × (j.steps ≡ n) × (j.refinements ≡ r)
+Asked n r rows (Err f) = start_fault n r rows ≡ Some (refusal_number f)
 
--- a judge and timings of just these numbers, or the first refusal
-abbrev pub Asked : ℕ → ℕ → List Numbers → Result (Demand × Few Timing 32) Refusal → Type 0
-Asked n r rows (Ok q) =
-    (asked_fault n r rows ≡ None) × (q.0.steps ≡ n) × (q.0.refinements ≡ r) × (map numbers (held q.1) ≡ rows)
-Asked n r rows (Err f) = asked_fault n r rows ≡ Some (refusal_number f)
+-- timings of just these numbers, or the first limit that a row breaks
+abbrev pub Read : List Numbers → List Timing → Result (Unit {0}) RequestFault → Type 0
+Read rows l (Ok _) = (rows_fault rows ≡ None) × (map numbers l ≡ rows)
+Read rows l (Err f) = rows_fault rows ≡ Some (request_number f)
+
+-- an answer on timings of just these numbers, or the first refusal
+abbrev pub Answered : {A : Type 0} → Option ℕ → List Numbers → (List Timing → A) → Result A Refusal → Type 0
+Answered fault rows says (Ok a) = (fault ≡ None) × ((l : List Timing) × (map numbers l ≡ rows) × (a ≡ says l))
+Answered fault rows says (Err f) = fault ≡ Some (refusal_number f)
 
 -- a refusal, or what is said of the timings of these numbers
 abbrev pub Replied : Option ℕ → List Numbers → (List Timing → ℕ) → Reply → Type 0

@@ -1,5 +1,6 @@
 // Rows and numbers of a judge, read.
-ghost use Rattle.std.specs.Prelude.{◌≤◌, length};
+ghost use Rattle.std.specs.Prelude.{◌≡◌, ◌≤◌, [], length};
+ghost use Rattle.processor.specs.Few.{held};
 ghost use Rattle.exports.specs.Judging.{Read, Asked};
 
 use crate::numbers::Numbers;
@@ -7,7 +8,6 @@ use crate::refusal::Refusal;
 use judges::demand::Demand;
 use model::fault::RequestFault;
 use model::timing::Timing;
-use processor::asking::UNUSED;
 use processor::few::Few;
 
 // The most rows that a judge says yes to.
@@ -15,29 +15,29 @@ pub const MOST_ROWS: usize = 32;
 
 pub type Rows = Few<Timing, 32>;
 
-// A judge and the rows that it is asked about, or the first refusal: the judge's, a list that is too long, a row's.
-pub(crate) fn question(
+// A judge that is asked about so many rows, or the first refusal: the judge's, or that of a list that is too long.
+pub(crate) fn judge_for(
     steps: u32,
     refinements: u32,
     rows: &[Numbers],
-) -> Result<(Demand, Rows), Refusal>
+) -> Result<Demand, Refusal>
     ensures { Asked steps refinements rows.now result }
 {
     let judge = Demand::new(steps, refinements)?;
     if rows.len() > MOST_ROWS {
         return Err(Refusal::Rows);
     }
-    let list = read(rows)?;
-    Ok((judge, list))
+    Ok(judge)
 }
 
-fn read(rows: &[Numbers]) -> Result<Rows, RequestFault>
-    requires { length rows.now ≤ 32 }
-    ensures { Read rows.now result }
+// Reads the rows into an empty list, or says the first refusal of one. The list is lent: handed back, it would be moved from call to call.
+pub(crate) fn read(rows: &[Numbers], list: &mut Rows) -> Result<(), RequestFault>
+    requires few { length rows.now ≤ 32 }
+    requires empty { held list.old ≡ [] }
+    ensures { Read rows.now (held list.new) result }
 {
-    let mut list = Few::new(UNUSED);
     for row in rows {
         list.push(Timing::new(row.budget, row.deadline, row.period)?);
     }
-    Ok(list)
+    Ok(())
 }

@@ -17,11 +17,11 @@ use std::array;
 #[derive(Drop)]
 pub(crate) struct Curve<'a> {
     pub(crate) list: &'a [Timing],
-    pub(crate) steps: u8,
-    // The slope of each timing's line is its share: an array for the most timings, since no call takes memory.
-    slopes: [u32; 32],
     // The sum of the shares.
     pub(crate) sum: u64,
+    // The slope of each timing's line is its share: an array for the most timings, since no call takes memory.
+    slopes: [u32; 32],
+    pub(crate) steps: u8,
     ghost few: { length list.now ≤ 32 },
     ghost stepped: { steps ≤ 9 },
     ghost paired: { take (length list.now) slopes ≡ map (share scale) list.now },
@@ -29,6 +29,7 @@ pub(crate) struct Curve<'a> {
 }
 
 impl<'a> Curve<'a> {
+    #[inline]
     pub(crate) fn new(list: &'a [Timing], steps: u8) -> Curve<'a>
         requires few { length list.now ≤ 32 }
         requires stepped { steps ≤ 9 }
@@ -45,9 +46,9 @@ impl<'a> Curve<'a> {
         }
         Curve {
             list,
-            steps,
-            slopes,
             sum,
+            slopes,
+            steps,
         }
     }
 

@@ -15,7 +15,7 @@ pub returns-in_err-new : goal.returns-in_err-new
 returns-in_err-new c =
     let fault = c.in_err-new.field-0.0 in
     let gone : c.from_residual.result ≡ Err fault = search rules in
-    subst (Read c.args.rows.now) (sym gone) (
+    subst (Read c.args.rows.now _) (sym gone) (
     sym c.loop-row.invariant.1 ∙ fault_at c.args.rows.now c.loop-row.row-index none c.loop-row-test.true
     ∙ ap (λ f. or_later (numbered request_number f) (rows_fault (drop (c.loop-row.row-index + 1) c.args.rows.now))) c.in_err-new.ensures
     )
