@@ -31,19 +31,19 @@ pub fn answer<J: SizingJudge, P: Placement>(
     ensures rule { board.new.rule ≡ board.old.rule }
 {
     check_room(reply)?;
-    let said = match ask(line) {
-        Err(fault) => refusal(fault.number()),
-        Ok(Request::Blank) => Reply::new(),
+    let end = match ask(line) {
+        Err(fault) => refusal(fault.number()).put(reply, 0),
+        Ok(Request::Blank) => 0,
         Ok(Request::Admit(asked)) => {
             let admitted = board.admit(asked);
-            admission(&admitted)
+            admission(&admitted).put(reply, 0)
         }
         Ok(Request::Leave { key }) => {
             let withdrawn = board.withdraw(key);
-            withdrawal(key, &withdrawn, board.plan.processors.as_slice())
+            withdrawal(key, &withdrawn, board.plan.processors.as_slice()).put(reply, 0)
         }
     };
-    Ok(said.put(reply, 0))
+    Ok(end)
 }
 
 // What a line asks for, or its own refusal.

@@ -80,6 +80,9 @@ pub fn first_line(line: &[u8], reply: &mut [u8]) -> Result<(First, usize), LineF
 {
     check_room(reply)?;
     let first = First::read(line);
+    if let First::Wait = first {
+        return Ok((first, 0));
+    }
     let end = first.reply().put(reply, 0);
     Ok((first, end))
 }

@@ -49,9 +49,10 @@ impl<I: Read> Reader<I> {
         ensures enough { IfOk result KeptEnough }
         ensures marked { self.new.marked ≡ self.old.marked }
     {
-        let Some(line) = self.lines.next_line()? else {
+        let mut line = Line::new();
+        if !self.lines.read_line(&mut line)? {
             return Ok(Next::End);
-        };
+        }
         if self.marked && same(line.text(), b"----") {
             return Ok(Next::Mark(line));
         }
