@@ -1,12 +1,12 @@
 -- What was done is answered with the text that says it. Assumes nothing.
-use Rattle.std.proofs.Common.{◌≡◌, ℕ, Bool, true, false, List, [], ℤ, get_or, Ok, Err, Result, String, subst, ◌∙◌}
+use Rattle.std.proofs.Common.{◌≡◌, ℕ, Bool, true, false, cond, not, ◌&&◌, ltb, List, [], ℤ, length, get_or, Ok, Err, Result, String, sym, refl, subst, ◌∙◌}
 use Rattle.std.specs.declared.alloc.AllocError.{AllocError}
 use Rattle.model.specs.declared.timing.Timing.{Timing}
 use Rattle.model.specs.declared.row.Row.{Row}
 use Rattle.model.specs.declared.fault.LineFault.{LineFault}
 use Rattle.lines.specs.Fields.{fields}
 use Rattle.benchlines.specs.declared.task.Task.{Task}
-use Rattle.benchlines.specs.Tasks.{task_of}
+use Rattle.benchlines.specs.Tasks.{blank, task_among, task_of}
 use Rattle.benchlines.specs.Hex.{is_image, bytes_of}
 use Rattle.bench.specs.Answered.{Says, LoadsDigits, LoadAnswered, AnsweredAs, Answered}
 
@@ -43,3 +43,20 @@ pub load_is : {R : Type 0} (says : List ℕ → Type 0) (first : R → R → Boo
 load_is says first ranks accepts allows line digits before after is field h =
     subst (λ task. AnsweredAs says first ranks accepts allows (fields line) before task after) is
     (subst (λ d. LoadAnswered says accepts d before after) field h)
+
+blank_by : (long some : Bool) (refused among none : Result Task LineFault) → (not long && not some) ≡ true →
+    cond long refused (cond some among none) ≡ none
+blank_by true some refused among none h = absurd (cc)
+blank_by false true refused among none h = absurd (cc)
+blank_by false false refused among none h = refl
+
+blank_task : (line : List ℕ) → blank line ≡ true → task_of line ≡ Ok Task.Blank
+blank_task line h =
+    blank_by (ltb 12000 (length line)) (ltb 0 (length (fields line))) (Err LineFault.Long) (task_among (fields line)) (Ok Task.Blank) h
+
+-- a blank line is answered with no text
+pub blank_said : {R Z : Type 0} (first : R → R → Bool) (ranks : ℕ → ℤ → ℕ → R) (accepts : List Timing → Bool) (allows : List Timing → ℕ → ℕ → ℕ)
+    (line : List ℕ) (plan : List (List Row)) (reply : Result (String Z) AllocError) → true ≡ blank line → Says reply []
+    → Answered first ranks accepts allows (fields line) plan (task_of line) plan reply
+blank_said first ranks accepts allows line plan reply is says =
+    subst (λ task. Answered first ranks accepts allows (fields line) plan task plan reply) (sym (blank_task line (sym is))) (refl, says)

@@ -1,7 +1,7 @@
 // The rows of a line: three numbers each, all of them read before a limit is looked at.
 ghost use Rattle.std.specs.Prelude.{◌≡◌, ◌+◌, ◌≤◌, length};
 ghost use Rattle.lines.specs.Fields.{fields};
-ghost use Rattle.bench.specs.Timings.{timing_at, timings_at, timings_read, timings_by, rows_read, kept};
+ghost use Rattle.bench.specs.Timings.{timing_of, timing_at, timings_at, timings_read, timings_by, rows_read, kept};
 
 use crate::refusal::Refusal;
 use benchlines::numbers::{number_at, read_numbers};
@@ -65,9 +65,15 @@ fn read_timing(line: &[u8], at: usize) -> Result<Timing, RequestFault>
     requires { at ≤ 2000 }
     ensures { result ≡ timing_at (fields line.now) at }
 {
-    Timing::new(
+    timing_of(
         number_at(line, at),
         number_at(line, at + 1),
         number_at(line, at + 2),
     )
+}
+
+fn timing_of(budget: u32, deadline: u32, period: u32) -> Result<Timing, RequestFault>
+    ensures { result ≡ timing_of budget deadline period }
+{
+    Timing::new(budget, deadline, period)
 }
