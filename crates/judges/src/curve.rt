@@ -21,6 +21,7 @@ pub(crate) struct Curve<'a> {
     pub(crate) sum: u64,
     // The slope of each timing's line is its share: an array for the most timings, since no call takes memory.
     slopes: [u32; 32],
+    // Behind the array: one byte before it, and its padding, made each move of the array a call.
     pub(crate) steps: u8,
     ghost few: { length list.now ≤ 32 },
     ghost stepped: { steps ≤ 9 },
