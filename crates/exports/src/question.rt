@@ -16,11 +16,7 @@ pub const MOST_ROWS: usize = 32;
 pub type Rows = Few<Timing, 32>;
 
 // A judge that is asked about so many rows, or the first refusal: the judge's, or that of a list that is too long.
-pub(crate) fn judge_for(
-    steps: u32,
-    refinements: u32,
-    rows: &[Numbers],
-) -> Result<Demand, Refusal>
+pub(crate) fn judge_for(steps: u32, refinements: u32, rows: &[Numbers]) -> Result<Demand, Refusal>
     ensures { Asked steps refinements rows.now result }
 {
     let judge = Demand::new(steps, refinements)?;
