@@ -95,7 +95,7 @@ module _ {R : Type 0} (first : R → R → Bool) (ranks : ℕ → ℤ → ℕ �
     agree c d (y ∷ b) a (z ∷ b') a' e s w t v =
         let tail : b ++ (c ∷ a) ≡ b' ++ (d ∷ a') = cc in agree c d b a b' a' tail s.1 w t.1 v
 
-    first_once : (l : List Candidate) (c d : Candidate) → First first ranks l c → First first ranks l d → c ≡ d
+    pub first_once : (l : List Candidate) (c d : Candidate) → First first ranks l c → First first ranks l d → c ≡ d
     first_once l c d f k =
         agree c d f.before f.after k.before k.after (sym f.stands ∙ k.stands) f.strictly f.weakly k.strictly k.weakly
 

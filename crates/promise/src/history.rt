@@ -1,13 +1,17 @@
 // Any list of calls from set-up on, answered one after the other, with all that is promised of the answers and the plan.
 ghost use Rattle.std.specs.Prelude.{◌≡◌};
 ghost use Rattle.board.specs.Plan.{plan};
+ghost use Rattle.board.specs.Admit.{admitted, after, told};
 ghost use Rattle.promise.specs.History.{Derived};
 ghost use Rattle.promise.specs.Promise.{meant, Begun, Ran};
 
 use crate::call::{Answer, Call};
+use board::admission::Admission;
 use board::board::Board;
 use board::setup::SetupError;
+use model::fault::RequestFault;
 use model::judge::SizingJudge;
+use model::wanted::Wanted;
 use placement::rule::Placement;
 use std::alloc::Global;
 use store::load::load;
@@ -59,8 +63,21 @@ pub fn make<J: SizingJudge, P: Placement>(board: &mut Board<J, P>, call: &Call) 
     ensures rule { board.new.rule ≡ board.old.rule }
 {
     match call {
-        Call::Admit(wanted) => Answer::Admitted(board.admit(*wanted)),
+        Call::Admit(wanted) => Answer::Admitted(admit(board, *wanted)),
         Call::Withdraw { key } => Answer::Withdrawn(board.withdraw(*key)),
         Call::Load { image } => Answer::Loaded(load(board, image)),
     }
+}
+
+// One admission, each number of the call in its place: what `make` proves of it stands on this alone.
+fn admit<J: SizingJudge, P: Placement>(
+    board: &mut Board<J, P>,
+    wanted: Wanted,
+) -> Result<Admission, RequestFault>
+    ensures answer { told result ≡ admitted P.Rank.Rank.first (P.Placement.ranks board.old.rule) (J.Judge.accepts board.old.judge) (J.SizingJudge.allows board.old.judge) (plan board.old) wanted.key wanted.budget wanted.deadline wanted.period }
+    ensures after { plan board.new ≡ after (plan board.old) (told result) }
+    ensures judge { board.new.judge ≡ board.old.judge }
+    ensures rule { board.new.rule ≡ board.old.rule }
+{
+    board.admit(wanted)
 }

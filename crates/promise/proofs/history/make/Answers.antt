@@ -19,9 +19,9 @@ returns-in-Admit g c =
     let accepts = g.J.Judge.accepts b.judge in
     let allows = g.J.SizingJudge.allows b.judge in
     record {
-      derived = subst (λ call. Derived (meant first ranks accepts allows) (plan b) call (Answer.Admitted c.admit.result) (plan c.admit.new.self)) (sym c.in-Admit.is)
+      derived = subst (λ call. Derived (meant first ranks accepts allows) (plan b) call (Answer.Admitted c.admit.result) (plan c.admit.new.board)) (sym c.in-Admit.is)
           (admits_told first ranks accepts allows (plan b) w.key g.met.P.Rank.Rank.chain g.met.P.Rank.Rank.total (g.met.J.SizingJudge.capped b.judge) some
-          w.budget w.deadline w.period (told c.admit.result) (plan c.admit.new.self) c.admit.ensures.answer c.admit.ensures.after);
+          w.budget w.deadline w.period (told c.admit.result) (plan c.admit.new.board) c.admit.ensures.answer c.admit.ensures.after);
       judge = c.admit.ensures.judge;
       rule = c.admit.ensures.rule;
     }
