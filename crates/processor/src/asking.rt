@@ -31,7 +31,11 @@ impl Processor {
     pub fn takes<J: Judge>(&self, judge: &J, timing: Timing) -> bool
         ensures { result ≡ takes (J.Judge.accepts judge.now) (rows_of self.now) timing }
     {
-        self.has_room() && judge.judge(self.asked(timing).as_slice())
+        if !self.has_room() {
+            return false;
+        }
+        let list = self.asked(timing);
+        judge.judge(list.as_slice())
     }
 
     // The longest tail that it can take: none without a free row, or beside another tail.
@@ -39,11 +43,11 @@ impl Processor {
         ensures value { result ≡ offers (J.SizingJudge.allows judge.now) (rows_of self.now) period cap }
         ensures bound { result ≤ cap }
     {
-        if self.has_room() && !self.has_tail() {
-            judge.allowance(self.timings().as_slice(), period, cap)
-        } else {
-            0
+        if !self.has_room() || self.has_tail() {
+            return 0;
         }
+        let list = self.timings();
+        judge.allowance(list.as_slice(), period, cap)
     }
 
     // What is left of the processor: below zero where rounding up has carried the shares past the scale.
@@ -81,10 +85,14 @@ impl Processor {
         list
     }
 
-    // The timings of its rows.
+    // The timings of its rows. A loop: a list that is collected is moved once more, and a board asks for one at each question.
     pub fn timings(&self) -> Timings
         ensures { held result ≡ timings (rows_of self.now) }
     {
-        Few::collected(UNUSED, self.rows.iter().map(|row| row.timing))
+        let mut list = Few::new(UNUSED);
+        for row in self.rows.as_slice() {
+            list.push(row.timing);
+        }
+        list
     }
 }

@@ -74,7 +74,8 @@ impl Processor {
     pub fn fits_instead<J: Judge>(&self, judge: &J, key: u16, timing: Timing) -> bool
         ensures { result ≡ J.accepts judge.now (timings (others key (rows_of self.now)) ++ (timing ∷ [])) }
     {
-        judge.judge(self.asked_instead(key, timing).as_slice())
+        let list = self.asked_instead(key, timing);
+        judge.judge(list.as_slice())
     }
 
     // The timings of the rows of others with this one at the end.
