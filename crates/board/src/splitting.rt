@@ -51,6 +51,7 @@ fn split_rows(key: u16, processor: u8, head: Timing, cuts: &[Cut]) -> Admission
     };
     let mut placed = Few::new(first);
     placed.push(first);
+    // By place: which tail that is, `served` says in a contract of its own, and an edit of it is refused there.
     for i in 0..cuts.len() {
         placed.push(tail_row(key, i as u8 + 1, served(cuts, i)));
     }

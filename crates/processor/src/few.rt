@@ -10,6 +10,7 @@ pub struct Few<T, const N: usize> {
     ghost within: { len ≤ N },
 }
 
+// By hand: no derive of Clone is to be had for a generic struct with a ghost field.
 impl<T: Copy, const N: usize> Clone for Few<T, N> {
     ghost is_clone = { λ x y. y ≡ x };
 
