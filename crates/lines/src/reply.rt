@@ -26,7 +26,7 @@ pub struct Reply<const N: usize> {
     text: ArrayString<N>,
 }
 
-#[tactic(auto, using(crate::proofs::Sizes::key_short, crate::proofs::Sizes::byte_short, crate::proofs::Sizes::ticks_short))]
+#[tactic(auto, using(crate::proofs::Sizes::key_short, crate::proofs::Sizes::byte_short, crate::proofs::Sizes::ticks_short, crate::proofs::Sizes::one_digit))]
 impl<const N: usize> Reply<N> {
     pub fn new() -> Reply<N>
         ensures { text_of result ≡ [] }
