@@ -2,8 +2,9 @@
 // is answered is that of `first_line` and `answer`. An input of unknown bytes has no measure, so the loops over its lines are counted.
 use crate::answer::answer;
 use crate::first::{First, Start, first_line};
-use crate::reader::{Next, Reader};
+use crate::reader::{Found, KEPT, Next, Reader};
 use lines::choice::{NamedJudge, Work};
+use lines::line::Line;
 use lines::reply::REPLY_ROOM;
 use model::judge::SizingJudge;
 use placement::rule::Placement;
@@ -43,10 +44,11 @@ pub enum Ended {
 
 // Waits for the first line, and keeps the board that it asks for.
 pub fn run<I: Read>(rt: &HostRuntime, reader: &mut Reader<I>) -> io::Result<Ended> {
+    let mut line = Line::new();
     // As a host lends one.
     let mut reply = [0u8; REPLY_ROOM];
     for _ in 0..u64::MAX {
-        let Next::Line(line) = reader.next_line()? else {
+        let Found::Line = reader.read_line(&mut line)? else {
             break;
         };
         let Ok((first, end)) = first_line(line.text(), &mut reply) else {
@@ -66,6 +68,7 @@ pub fn run<I: Read>(rt: &HostRuntime, reader: &mut Reader<I>) -> io::Result<Ende
                 let session = Session {
                     rt,
                     reader,
+                    line: &mut line,
                     start,
                     said: &reply[0..end],
                 };
@@ -91,6 +94,7 @@ fn pass_over<I: Read>(reader: &mut Reader<I>) -> io::Result<()> {
 struct Session<'a, I> {
     rt: &'a HostRuntime,
     reader: &'a mut Reader<I>,
+    line: &'a mut Line<KEPT>,
     start: Start,
     said: &'a [u8],
 }
@@ -105,6 +109,7 @@ impl<I: Read> Work for Session<'_, I> {
         let Session {
             rt,
             reader,
+            line,
             start,
             said,
         } = self;
@@ -112,7 +117,7 @@ impl<I: Read> Work for Session<'_, I> {
         rt.write_all(said)?;
         let mut reply = [0u8; REPLY_ROOM];
         for _ in 0..u64::MAX {
-            let Next::Line(line) = reader.next_line()? else {
+            let Found::Line = reader.read_line(line)? else {
                 break;
             };
             let Ok(end) = answer(&mut board, line.text(), &mut reply) else {

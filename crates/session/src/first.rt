@@ -1,7 +1,7 @@
 // The first line: what board it asks for.
-ghost use Rattle.std.specs.Prelude.{◌≡◌};
+ghost use Rattle.std.specs.Prelude.{◌≡◌, ◌≤◌, length};
 ghost use Rattle.lines.specs.Setups.{setup_of};
-ghost use Rattle.lines.specs.Replies.{text_of};
+ghost use Rattle.lines.specs.Replies.{text_of, Wrote};
 ghost use Rattle.session.specs.Answered.{Replied};
 ghost use Rattle.session.specs.Opened.{first_text, Read, Opened, Comes, said, ended};
 
@@ -55,6 +55,15 @@ impl First {
         }
         reply
     }
+
+    // Writes the reply from the buffer's start, and answers its length.
+    fn put(&self, out: &mut [u8]) -> usize
+        requires { 256 ≤ length out.old }
+        ensures wrote { Wrote out.old 0 (said self.now) out.new result }
+        ensures short { result ≤ 256 }
+    {
+        self.reply().put(out, 0)
+    }
 }
 
 impl Start {
@@ -83,6 +92,6 @@ pub fn first_line(line: &[u8], reply: &mut [u8]) -> Result<(First, usize), LineF
     if let First::Wait = first {
         return Ok((first, 0));
     }
-    let end = first.reply().put(reply, 0);
+    let end = first.put(reply);
     Ok((first, end))
 }

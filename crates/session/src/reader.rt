@@ -1,6 +1,7 @@
 // The lines of sessions: of one that goes on to the input's end, or of many, each ended by the line `----`.
 ghost use Rattle.std.specs.Prelude.{◌≡◌, [], IfOk};
 ghost use Rattle.lines.specs.Reading.{left, Told};
+ghost use Rattle.lines.specs.Held.{held};
 
 use lines::command::LONGEST_LINE;
 use lines::fields::same;
@@ -10,7 +11,7 @@ use std::io;
 use std::io::Read;
 
 // One byte more than a line may have, so that one that is too long shows.
-const KEPT: usize = LONGEST_LINE + 1;
+pub const KEPT: usize = LONGEST_LINE + 1;
 
 #[derive(Drop)]
 pub struct Reader<I> {
@@ -29,8 +30,16 @@ pub enum Next {
     End,
 }
 
+// The same of a line that is lent.
+#[derive(Clone, Copy)]
+pub enum Found {
+    Line,
+    Mark,
+    End,
+}
+
 impl<I: Read> Reader<I> {
-    ghost use Rattle.session.specs.Reading.{NextLine, KeptEnough};
+    ghost use Rattle.session.specs.Reading.{NextLine, FoundLine, IsEnough, KeptEnough};
 
     pub fn new(input: I, marked: bool) -> Reader<I>
         ensures lines { left result.lines ≡ [] }
@@ -50,13 +59,27 @@ impl<I: Read> Reader<I> {
         ensures marked { self.new.marked ≡ self.old.marked }
     {
         let mut line = Line::new();
-        if !self.lines.read_line(&mut line)? {
-            return Ok(Next::End);
+        match self.read_line(&mut line)? {
+            Found::Line => Ok(Next::Line(line)),
+            Found::Mark => Ok(Next::Mark(line)),
+            Found::End => Ok(Next::End),
+        }
+    }
+
+    // The same into a line that is lent, whatever it held.
+    #[tactic(auto, using(crate::proofs::Kept::line_enough))]
+    pub fn read_line(&mut self, line: &mut Line<KEPT>) -> io::Result<Found>
+        ensures line { FoundLine self.old.marked (left self.new.lines) (held line.new) result }
+        ensures enough { IsEnough line.new }
+        ensures marked { self.new.marked ≡ self.old.marked }
+    {
+        if !self.lines.read_line(line)? {
+            return Ok(Found::End);
         }
         if self.marked && same(line.text(), b"----") {
-            return Ok(Next::Mark(line));
+            return Ok(Found::Mark);
         }
-        Ok(Next::Line(line))
+        Ok(Found::Line)
     }
 
     // Whether the input has another byte.
