@@ -1,11 +1,10 @@
 -- The fields of a line are its parts between single spaces, but for those with no byte; how they follow each other in the line. Assumes nothing.
-use Rattle.std.proofs.Common.{◌≡◌, ℕ, ◌+◌, ◌-◌, ◌^◌, ◌<◌, ◌≤◌, min, Bool, true, false, cond, not, ◌==◌, List, [], ◌∷◌, ◌++◌, length, get_or, take, drop, Option, Some, None, Bor, ap, refl, ◌∙◌, one-add, arith}
+use Rattle.std.proofs.Common.{◌≡◌, ℕ, ◌+◌, ◌<◌, Bool, true, false, cond, not, ◌==◌, List, [], ◌∷◌, ◌++◌, length, get_or, take, drop, Option, Some, None, Bor, ap, refl, ◌∙◌, one-add, arith}
 use Rattle.std.specs.List.{filter, slice_split, onto_first, slice_get, prefix_len, AllByRecursion}
 use Rattle.std.specs.Option.{option_map, unwrap_or}
 use Rattle.std.proofs.lemmas.Option.{unwrap_or-slice_get}
-use Rattle.std.proofs.lemmas.List.{append-nil, append_assoc, length-take, length_push}
+use Rattle.std.proofs.lemmas.List.{append-nil, append_assoc}
 use Rattle.std.proofs.lemmas.Bool.{ne_eqb}
-use Rattle.std.proofs.lemmas.Bool.Decides.{nat_tests}
 use Rattle.lines.specs.Fields.{is_space, is_other, ended, fields_after, fields}
 
 abbrev pub has_byte : List ℕ → Bool
@@ -55,25 +54,6 @@ read_field fs k r d is none = now_or r ∙ (ap (λ o. unwrap_or o d.now) is ∙ 
     now_or : (r : Option (Bor (List ℕ))) → (unwrap_or r d).now ≡ unwrap_or (option_map (λ x. x.now) r) d.now
     now_or None = refl
     now_or (Some x) = refl
-
-ended_few : (f : List ℕ) (fs : List (List ℕ)) → length (ended f fs) ≤ length f + length fs
-ended_few [] fs = omega arith
-ended_few (a ∷ f) fs = omega arith
-
--- a field has a byte, so there are no more fields than bytes
-pub fields_few : (f l : List ℕ) → length (fields_after f l) ≤ length f + length l
-fields_few f [] = ended_few f []
-fields_few f (b ∷ l) = at (is_space b) (fields_few [] l) (fields_few (f ++ (b ∷ [])) l)
-  where
-    at : (t : Bool) → length (fields l) ≤ 0 + length l → length (fields_after (f ++ (b ∷ [])) l) ≤ length (f ++ (b ∷ [])) + length l
-        → length (cond t (ended f (fields l)) (fields_after (f ++ (b ∷ [])) l)) ≤ length f + length (b ∷ l)
-    at true end more = omega (arith, ended_few f (fields l))
-    at false end more = let longer = length_push f b in omega arith
-
--- of n + 1 fields at most, or of all that there can be, n are found just where there are n
-pub one_more_shows : (fs : List (List ℕ)) (n most : ℕ) → (most ≡ min (n + 1) (2 ^ 64 - 1)) × (length fs < 2 ^ 64 - 1)
-    → (length (take most fs) == n) ≡ (length fs == n)
-one_more_shows fs n most is = grind (arith, nat_tests, length-take most fs)
 
 -- spaces in front part nothing
 pub fields_past_spaces : (l : List ℕ) → fields (drop (prefix_len is_space l) l) ≡ fields l

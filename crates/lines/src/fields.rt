@@ -24,14 +24,8 @@ pub fn has_field(line: &[u8], place: usize) -> bool
 pub fn has_fields(line: &[u8], count: usize) -> bool
     ensures { result ≡ (length (fields line.now) == count) }
 {
-    // One more shows that there are more, so no byte behind that is looked at.
-    let most = count.saturating_add(1);
-    let found = line
-        .split(|byte| *byte == b' ')
-        .filter(|part| !part.is_empty())
-        .take(most)
-        .count();
-    found == count
+    // By its places, so that no byte behind the field after these is looked at.
+    (count == 0 || has_field(line, count - 1)) && !has_field(line, count)
 }
 
 // How many fields the line has.
