@@ -1,29 +1,32 @@
-use Rattle.std.proofs.Common.{[], ◌∷◌, length, ap, arith, length-append}
+use Rattle.std.proofs.Common.{[], ◌∷◌, length, refl, ap, arith, length-append}
 use Rattle.std.proofs.lemmas.Result.{err_from_is_err_and}
 use Rattle.lines.specs.Fields.{fields}
 use Rattle.processor.specs.Few.{held}
-use Rattle.bench.proofs.RowsRead.{rows_none, room_more, rows_more, rows_stop, rows_all}
+use Rattle.bench.specs.Timings.{timing_at, timings_at}
+use Rattle.bench.proofs.RowsRead.{rows_none, room_more, rows_more, rows_stop, rows_all, read_by_row}
 use Rattle.bench.proofs.timings.read_timings.Goals as goal
 
 pub loop-i-init : goal.loop-i-init
-loop-i-init c = (rows_none (fields c.args.line.now) (held c.new-timings.result) c.args.first c.args.count c.new-timings.ensures, ap length c.new-timings.ensures)
+loop-i-init c =
+    (rows_none (timings_at (fields c.args.line.now)) (held c.new-timings.result) c.args.first c.args.count c.new-timings.ensures, ap length c.new-timings.ensures)
 
 pub returns-in_err-read_timing : goal.returns-in_err-read_timing
 returns-in_err-read_timing c =
-    let p = err_from_is_err_and c.from_residual.result c.from_residual.ensures.1 in
+    let p = err_from_is_err_and c.from_residual.result c.from_residual.ensures.1 in let fs = fields c.args.line.now in
     rw (p.1, p.2)
-    (rows_stop (fields c.args.line.now) c.args.first c.args.count c.loop-i.i (held c.loop-i.timings) c.in_err-read_timing.field-0.0
+    (rows_stop (λ place n. timing_at fs place) (timings_at fs) (read_by_row fs) c.args.first c.args.count c.loop-i.i (held c.loop-i.timings) c.in_err-read_timing.field-0.0
     c.read_timing.result _ (omega arith) c.read_timing.ensures c.in_err-read_timing.was c.loop-i.invariant.0)
 
 pub loop-i-preserved : goal.loop-i-preserved
 loop-i-preserved c =
+    let fs = fields c.args.line.now in
     let xs = held c.loop-i.timings in let x = c.in_ok-read_timing.field-0 in
     let longer = room_more xs (held c.push.new.self) x (omega arith) c.push.ensures.after in (
-      rows_more (fields c.args.line.now) c.args.first c.args.count c.loop-i.i xs (held c.push.new.self) x
+      rows_more (λ place n. timing_at fs place) (timings_at fs) (read_by_row fs) c.args.first c.args.count c.loop-i.i xs (held c.push.new.self) x
           c.read_timing.result _ (omega arith) c.read_timing.ensures c.in_ok-read_timing.was longer c.loop-i.invariant.0,
       omega (arith, ap length longer, length-append xs (x ∷ [])),
     )
 
 pub returns : goal.returns
 returns c =
-    rows_all (fields c.args.line.now) _ c.args.count c.loop-i.i (held c.loop-i.timings) _ (omega arith) c.loop-i.invariant.0
+    rows_all (timings_at (fields c.args.line.now)) _ c.args.count c.loop-i.i (held c.loop-i.timings) _ refl (omega arith) c.loop-i.invariant.0
